@@ -1,5 +1,6 @@
 -- Worked examples of tables as they are written and of what fits a network, computed.
-use Rattle.std.specs.Prelude.{◌≡◌, ℕ, List, [], ◌∷◌, ◌++◌, Option, Some, None, Result, Ok, Err, codes, refl, map}
+use Rattle.std.specs.Prelude.{◌≡◌, ℕ, List, [], ◌∷◌, ◌++◌, Option, Some, None, Result, Ok, Err, codes, refl}
+use Rattle.std.specs.Prelude.{map}
 use Rattle.std.specs.Fmt.{digits}
 use Rattle.ij_bits.specs.Room.{full}
 use Rattle.ij_text.specs.declared.Place.{Place}
@@ -24,7 +25,23 @@ line_at n = record { line = n; col = 1 }
 -- x in a condition, a whole word and a slice of one
 abbrev sliced : SeenModel
 sliced =
-    record { words = record { name = codes "a"; width = 4; init = 0; reset = Some 3 } ∷ []; memory = None; ins = record { name = codes "i"; width = 4 } ∷ []; outs = record { name = codes "o"; word = 0; left = 2; right = 1 } ∷ record { name = codes "p"; word = 0; left = 3; right = 0 } ∷ []; change = []; run = record { conds = record { of = Input 0; value = 2; care = 14 } ∷ []; sets = record { slot = ToWord 0; amount = Minus (Word 0) 1 } ∷ [] } ∷ [] }
+    record {
+      words = record { name = codes "a"; width = 4; init = 0; reset = Some 3 } ∷ [];
+      memory = None;
+      ins = record { name = codes "i"; width = 4 } ∷ [];
+      outs = record {
+        name = codes "o";
+        word = 0;
+        left = 2;
+        right = 1;
+      } ∷ record { name = codes "p"; word = 0; left = 3; right = 0 } ∷ [];
+      change =
+          [];
+      run = record {
+        conds = record { of = Input 0; value = 2; care = 14 } ∷ [];
+        sets = record { slot = ToWord 0; amount = Minus (Word 0) 1 } ∷ [];
+      } ∷ [];
+    }
 
 -- ---- what is written, and read again
 
@@ -32,12 +49,14 @@ abbrev sliced_text : List ℕ
 sliced_text =
     codes "tables 2\ninstrument a\nin i 4\nword a 4 init 0 reset 3\nout o = a[2:1]\nout p = a\nrun when i = 0b001x do a = a - 1\nend\n"
 
-sliced_written : tables_text (record { path = codes "a" ∷ []; at = line_at 2; model = sliced } ∷ []) ≡ sliced_text
+sliced_written : tables_text (record { path = codes "a" ∷ []; at = line_at 2; model = sliced } ∷ [])
+    ≡ sliced_text
 unfolding tables_text table_text model_text digits
 sliced_written = refl
 
 sliced_again : tables sliced_text ≡ Ok (record { path = codes "a" ∷ []; at = line_at 2; model = sliced } ∷ [])
-unfolding tables lines_of end_of version instrument path line number decimal plain is_wide value_in care_in entry slice
+unfolding tables lines_of end_of version instrument path line number decimal
+    plain is_wide value_in care_in entry slice
 sliced_again = refl
 
 -- ---- what fits
@@ -45,16 +64,69 @@ sliced_again = refl
 -- an instrument a.b with inputs x and y and outputs p and q
 abbrev net : Net
 net =
-    record { regs = full []; muxes = full []; insts = full (record { node = 2; ins = full (record { name = full (codes "x"); bits = full (Zero ∷ Zero ∷ []) } ∷ record { name = full (codes "y"); bits = full (Zero ∷ []) } ∷ []); outs = full (record { name = full (codes "p"); width = 1 } ∷ record { name = full (codes "q"); width = 2 } ∷ []) } ∷ []); out = ScanIn; nodes = full (record { path = full []; «module» = full [] } ∷ record { path = full (full (codes "a") ∷ []); «module» = full [] } ∷ record { path = full (full (codes "a") ∷ full (codes "b") ∷ []); «module» = full [] } ∷ []); things = full [] }
+    record {
+      regs = full [];
+      muxes = full [];
+      insts = full
+          (record {
+            node = 2;
+            ins = full (record { name = full (codes "x"); bits = full (Zero ∷ Zero ∷ []) }
+                ∷ record { name = full (codes "y"); bits = full (Zero ∷ []) } ∷ []);
+            outs = full (record
+                { name = full (codes "p"); width = 1 } ∷ record { name = full (codes "q"); width = 2 } ∷ []);
+          } ∷ []);
+      out = ScanIn;
+      nodes = full (record { path = full []; «module» = full [] }
+          ∷ record { path = full (full (codes "a") ∷ []); «module» = full [] } ∷ record {
+            path =
+                full (full (codes "a") ∷ full (codes "b") ∷ []);
+            «module» = full [];
+          } ∷ []);
+      things = full [];
+    }
 
 -- its table names the ports in another order
 abbrev other_order : ℕ → SeenModel
 other_order width =
-    record { words = record { name = codes "w"; width = 2; init = 0; reset = None } ∷ []; memory = None; ins = record { name = codes "y"; width = 1 } ∷ record { name = codes "x"; width = width } ∷ []; outs = record { name = codes "q"; word = 0; left = 1; right = 0 } ∷ record { name = codes "p"; word = 0; left = 1; right = 1 } ∷ []; change = record { conds = record { of = Input 0; value = 1; care = 1 } ∷ record { of = Old 1; value = 2; care = 3 } ∷ record { of = Word 0; value = 0; care = 0 } ∷ []; sets = record { slot = ToWord 0; amount = Copy (Input 1) } ∷ [] } ∷ []; run = record { conds = []; sets = record { slot = ToWord 0; amount = Plus (Input 1) 3 } ∷ [] } ∷ [] }
+    record {
+      words = record { name = codes "w"; width = 2; init = 0; reset = None } ∷ [];
+      memory = None;
+      ins = record { name = codes "y"; width = 1 } ∷ record { name = codes "x"; width = width } ∷ [];
+      outs =
+          record { name = codes "q"; word = 0; left = 1; right = 0 } ∷ record {
+            name = codes "p";
+            word = 0;
+            left = 1;
+            right = 1;
+          } ∷ [];
+      change = record {
+        conds = record { of = Input 0; value = 1; care = 1 }
+            ∷ record { of = Old 1; value = 2; care = 3 } ∷ record { of = Word 0; value = 0; care = 0 } ∷ [];
+        sets = record { slot = ToWord 0; amount = Copy (Input 1) } ∷ [];
+      } ∷ [];
+      run = record { conds = []; sets = record { slot = ToWord 0; amount = Plus (Input 1) 3 } ∷ [] } ∷ [];
+    }
 
 abbrev net_order : SeenModel
 net_order =
-    record { words = record { name = codes "w"; width = 2; init = 0; reset = None } ∷ []; memory = None; ins = record { name = codes "x"; width = 2 } ∷ record { name = codes "y"; width = 1 } ∷ []; outs = record { name = codes "p"; word = 0; left = 1; right = 1 } ∷ record { name = codes "q"; word = 0; left = 1; right = 0 } ∷ []; change = record { conds = record { of = Input 1; value = 1; care = 1 } ∷ record { of = Old 0; value = 2; care = 3 } ∷ record { of = Word 0; value = 0; care = 0 } ∷ []; sets = record { slot = ToWord 0; amount = Copy (Input 0) } ∷ [] } ∷ []; run = record { conds = []; sets = record { slot = ToWord 0; amount = Plus (Input 0) 3 } ∷ [] } ∷ [] }
+    record {
+      words = record { name = codes "w"; width = 2; init = 0; reset = None } ∷ [];
+      memory = None;
+      ins = record { name = codes "x"; width = 2 } ∷ record { name = codes "y"; width = 1 } ∷ [];
+      outs =
+          record { name = codes "p"; word = 0; left = 1; right = 1 } ∷ record {
+            name = codes "q";
+            word = 0;
+            left = 1;
+            right = 0;
+          } ∷ [];
+      change = record {
+        conds = record { of = Input 1; value = 1; care = 1 }
+            ∷ record { of = Old 0; value = 2; care = 3 } ∷ record { of = Word 0; value = 0; care = 0 } ∷ [];
+        sets = record { slot = ToWord 0; amount = Copy (Input 0) } ∷ [];
+      } ∷ [];
+      run = record { conds = []; sets = record { slot = ToWord 0; amount = Plus (Input 0) 3 } ∷ [] } ∷ [];
+    }
 
 abbrev of_b : ℕ → SeenTable
 of_b width = record { path = codes "a" ∷ codes "b" ∷ []; at = line_at 2; model = other_order width }
@@ -94,7 +166,8 @@ alike =
         outs = full [];
       } ∷ []);
       out = ScanIn;
-      nodes = full (record { path = full []; «module» = full [] } ∷ record { path = full (full (codes "u") ∷ []); «module» = full [] } ∷ []);
+      nodes = full (record { path = full []; «module» = full [] }
+          ∷ record { path = full (full (codes "u") ∷ []); «module» = full [] } ∷ []);
       things = full [];
     }
 
@@ -111,7 +184,9 @@ straight_text =
 abbrev with_inputs : List SeenPort → List SeenRow → List SeenRow → SeenModel
 with_inputs ins change run =
     record {
-      words = record { name = codes "va"; width = 2; init = 0; reset = None } ∷ record { name = codes "vb"; width = 4; init = 5; reset = None } ∷ record { name = codes "vc"; width = 2; init = 0; reset = None } ∷ [];
+      words = record { name = codes "va"; width = 2; init = 0; reset = None }
+          ∷ record { name = codes "vb"; width = 4; init = 5; reset = None }
+          ∷ record { name = codes "vc"; width = 2; init = 0; reset = None } ∷ [];
       memory = Some (record { name = codes "m"; depth = 4; width = 2; init = 0; reset = None });
       ins = ins;
       outs = [];
@@ -127,34 +202,52 @@ turned =
     with_inputs (two_bits (codes "b") ∷ two_bits (codes "c") ∷ two_bits (codes "a") ∷ [])
     (record {
       conds = record { of = Old 1; value = 0; care = 3 } ∷ record { of = Input 0; value = 1; care = 1 } ∷ [];
-      sets = record { slot = ToWord 0; amount = Copy (Input 2) } ∷ record { slot = ToWord 1; amount = Plus (Word 1) 3 } ∷ record { slot = ToWord 2; amount = Copy (Input 1) } ∷ record { slot = ToEntry (Input 0); amount = Copy (Input 2) } ∷ [];
+      sets = record { slot = ToWord 0; amount = Copy (Input 2) } ∷ record {
+        slot = ToWord 1;
+        amount = Plus (Word 1) 3;
+      } ∷ record { slot = ToWord 2; amount = Copy (Input 1) }
+          ∷ record { slot = ToEntry (Input 0); amount = Copy (Input 2) } ∷ [];
     } ∷ record {
       conds = record { of = Input 2; value = 2; care = 3 } ∷ [];
-      sets = record { slot = ToWord 0; amount = Copy (Input 0) } ∷ record { slot = ToWord 2; amount = Entry (Input 1) } ∷ [];
+      sets = record { slot = ToWord 0; amount = Copy (Input 0) }
+          ∷ record { slot = ToWord 2; amount = Entry (Input 1) } ∷ [];
     } ∷ [])
-    (record { conds = record { of = Input 1; value = 3; care = 3 } ∷ []; sets = record { slot = ToWord 0; amount = Minus (Input 0) 1 } ∷ [] } ∷ [])
+    (record {
+      conds = record { of = Input 1; value = 3; care = 3 } ∷ [];
+      sets = record { slot = ToWord 0; amount = Minus (Input 0) 1 } ∷ [];
+    } ∷ [])
 
 abbrev straight : SeenModel
 straight =
     with_inputs (two_bits (codes "a") ∷ two_bits (codes "b") ∷ two_bits (codes "c") ∷ [])
     (record {
       conds = record { of = Old 2; value = 0; care = 3 } ∷ record { of = Input 1; value = 1; care = 1 } ∷ [];
-      sets = record { slot = ToWord 0; amount = Copy (Input 0) } ∷ record { slot = ToWord 1; amount = Plus (Word 1) 3 } ∷ record { slot = ToWord 2; amount = Copy (Input 2) } ∷ record { slot = ToEntry (Input 1); amount = Copy (Input 0) } ∷ [];
+      sets = record { slot = ToWord 0; amount = Copy (Input 0) } ∷ record {
+        slot = ToWord 1;
+        amount = Plus (Word 1) 3;
+      } ∷ record { slot = ToWord 2; amount = Copy (Input 2) }
+          ∷ record { slot = ToEntry (Input 1); amount = Copy (Input 0) } ∷ [];
     } ∷ record {
       conds = record { of = Input 0; value = 2; care = 3 } ∷ [];
-      sets = record { slot = ToWord 0; amount = Copy (Input 1) } ∷ record { slot = ToWord 2; amount = Entry (Input 2) } ∷ [];
+      sets = record { slot = ToWord 0; amount = Copy (Input 1) }
+          ∷ record { slot = ToWord 2; amount = Entry (Input 2) } ∷ [];
     } ∷ [])
-    (record { conds = record { of = Input 2; value = 3; care = 3 } ∷ []; sets = record { slot = ToWord 0; amount = Minus (Input 1) 1 } ∷ [] } ∷ [])
+    (record {
+      conds = record { of = Input 2; value = 3; care = 3 } ∷ [];
+      sets = record { slot = ToWord 0; amount = Minus (Input 1) 1 } ∷ [];
+    } ∷ [])
 
 abbrev of_u : SeenModel → SeenTable
 of_u m = record { path = codes "u" ∷ []; at = line_at 2; model = m }
 
 turned_read : tables turned_text ≡ Ok (of_u turned ∷ [])
-unfolding tables lines_of end_of version instrument path line number decimal plain is_wide value_in care_in entry slice
+unfolding tables lines_of end_of version instrument path line number decimal
+    plain is_wide value_in care_in entry slice
 turned_read = refl
 
 straight_read : tables straight_text ≡ Ok (of_u straight ∷ [])
-unfolding tables lines_of end_of version instrument path line number decimal plain is_wide value_in care_in entry slice
+unfolding tables lines_of end_of version instrument path line number decimal
+    plain is_wide value_in care_in entry slice
 straight_read = refl
 
 turned_fits : fitted alike (of_u turned ∷ []) ≡ Ok (straight ∷ [])

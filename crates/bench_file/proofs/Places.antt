@@ -1,5 +1,6 @@
 -- Where something of a name stands, and lists of different names.
-use Rattle.std.proofs.Common.{◌≡◌, ℕ, zero, suc, ◌+◌, ◌<◌, Bool, true, false, cond, List, [], ◌∷◌, ◌++◌, length, map, Some, get_or, refl, ap, sym, ◌∙◌, subst, arith}
+use Rattle.std.proofs.Common.{◌≡◌, ℕ, zero, suc, ◌+◌, ◌<◌, Bool, true, false, cond, List, [], ◌∷◌, ◌++◌}
+use Rattle.std.proofs.Common.{length, map, Some, get_or, refl, ap, sym, ◌∙◌, subst, arith}
 use Rattle.std.specs.Prelude.{Contains, unwrap_or}
 use Rattle.std.specs.Str.{bytes_eq}
 use Rattle.std.proofs.lemmas.Slice.Eq.{bytes_eq-Decides}
@@ -15,14 +16,17 @@ module _ {A : Type 0} (f : A → List ℕ) where
     within : k < length ys
     at : (d : A) → get_or ys k d ≡ x
 
-  one_later : (j : ℕ) (y : A) (ys : List A) (x : A) → AreDifferent (map f (y ∷ ys)) → Contains ys x → IsPlace (j + 1) ys x → (b : Bool) → bytes_eq (f x) (f y) ≡ b → IsPlace j (y ∷ ys) x
+  one_later : (j : ℕ) (y : A) (ys : List A) (x : A) → AreDifferent (map f (y ∷ ys)) → Contains ys x
+      → IsPlace (j + 1) ys x → (b : Bool) → bytes_eq (f x) (f y) ≡ b → IsPlace j (y ∷ ys) x
   one_later j y ys x apart inside rest true same =
-      absurd (apart.0 (subst (Contains (map f ys)) ((bytes_eq-Decides (f x) (f y)).0 same) (map_in f ys x inside)))
+      absurd (apart.0
+      (subst (Contains (map f ys)) ((bytes_eq-Decides (f x) (f y)).0 same) (map_in f ys x inside)))
   one_later j y ys x apart inside rest false other =
       let next : j + 1 + rest.k ≡ j + suc rest.k = omega arith in
       record {
         k = suc rest.k;
-        is = ap (λ b. cond b (Some j) (named_from (j + 1) (f x) (map f ys))) other ∙ rest.is ∙ ap (λ n. Some n) next;
+        is = ap (λ b. cond b (Some j) (named_from (j + 1) (f x) (map f ys))) other
+            ∙ rest.is ∙ ap (λ n. Some n) next;
         within = omega (arith, rest.within);
         at = λ d. rest.at d;
       }
@@ -63,7 +67,9 @@ pub second_apart : {A : Type 0} (xs ys : List A) → AreDifferent (xs ++ ys) →
 second_apart [] ys h = h
 second_apart (x ∷ xs) ys h = second_apart xs ys h.1
 
-pub not_both : {A : Type 0} (xs ys : List A) (z : A) → AreDifferent (xs ++ ys) → Contains xs z → Contains ys z → ⊥
+pub not_both : {A : Type 0} (xs ys : List A) (z : A)
+    → AreDifferent (xs ++ ys) → Contains xs z → Contains ys z → ⊥
 not_both [] ys z h (k, lt, e) c = absurd (omega (arith, lt))
-not_both (x ∷ xs) ys z h (zero, lt, e) c = h.0 (subst (Contains (xs ++ ys)) (sym e) (Contains-append_right xs ys z c))
+not_both (x ∷ xs) ys z h (zero, lt, e) c =
+    h.0 (subst (Contains (xs ++ ys)) (sym e) (Contains-append_right xs ys z c))
 not_both (x ∷ xs) ys z h (suc k, lt, e) c = not_both xs ys z h.1 (k, omega (arith, lt), e) c

@@ -1,5 +1,6 @@
 // The words, memory and ports of a model in the order of an instrument.
-ghost use Rattle.std.specs.Prelude.{◌≡◌, ◌<◌, ◌≤◌, map, length, get_or, unwrap_or, option_map, All, IfOk, IfSome};
+ghost use Rattle.std.specs.Prelude.{◌≡◌, ◌<◌, ◌≤◌, map, length, get_or, unwrap_or, option_map, All, IfOk};
+ghost use Rattle.std.specs.Prelude.{IfSome};
 ghost use Rattle.instruments.specs.Seen.{seen_word, seen_memory, seen_port, seen_out};
 ghost use Rattle.table_file.specs.Tables.{named};
 ghost use Rattle.bench_file.specs.Fits.{in_port, out_port, no_out, out_named};
@@ -142,7 +143,8 @@ pub(crate) fn outs_named(
     outs: &[OutDef],
     ports: &[PortOut],
 ) -> Result<List<OutDef>, OutOfMemory>
-    ensures { IfOk result (λ l. map seen_out l.items ≡ map (λ port. out_named (map seen_out outs.now) port.name) (map out_port ports.now)) }
+    ensures { IfOk result (λ l. map seen_out l.items
+        ≡ map (λ port. out_named (map seen_out outs.now) port.name) (map out_port ports.now)) }
 {
     let mut all = List::new(alloc);
     for port in ports {

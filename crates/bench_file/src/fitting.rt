@@ -4,7 +4,10 @@ ghost use Rattle.std.specs.List.{list_all};
 ghost use Rattle.net_graph.specs.Nets.{IsNet};
 ghost use Rattle.instruments.specs.Seen.{seen_port, seen_out, seen_model};
 ghost use Rattle.table_file.specs.Tables.{same_path, seen_table};
-ghost use Rattle.bench_file.specs.Fits.{in_port, out_port, model_out_port, same_port, among, same_ports, in_ports, out_ports, model_out_ports, has_ports, inst_path, table_named, missing, names_one, extra, models_from, fitted, misfit, inst_misfit, name_texts};
+ghost use Rattle.bench_file.specs.Fits.{in_port, out_port, model_out_port, same_port, among, same_ports};
+ghost use Rattle.bench_file.specs.Fits.{in_ports, out_ports, model_out_ports, has_ports, inst_path};
+ghost use Rattle.bench_file.specs.Fits.{table_named, missing, names_one, extra, models_from, fitted, misfit};
+ghost use Rattle.bench_file.specs.Fits.{inst_misfit, name_texts};
 ghost use Rattle.table_file.specs.Answers.{seen_tables};
 
 use crate::fault::FitsFault;
@@ -113,7 +116,8 @@ fn defs_among(ins: &[PortDef], ports: &[PortIn]) -> bool
 }
 
 fn outs_among(ports: &[PortOut], outs: &[OutDef]) -> bool
-    ensures { result ≡ list_all (among (map model_out_port (map seen_out outs.now))) (map out_port ports.now) }
+    ensures { result
+        ≡ list_all (among (map model_out_port (map seen_out outs.now))) (map out_port ports.now) }
 {
     for x in ports {
         if !out_among(x, outs) {
@@ -124,7 +128,8 @@ fn outs_among(ports: &[PortOut], outs: &[OutDef]) -> bool
 }
 
 fn out_defs_among(outs: &[OutDef], ports: &[PortOut]) -> bool
-    ensures { result ≡ list_all (among (map out_port ports.now)) (map model_out_port (map seen_out outs.now)) }
+    ensures { result
+        ≡ list_all (among (map out_port ports.now)) (map model_out_port (map seen_out outs.now)) }
 {
     for x in outs {
         if !out_def_among(x, ports) {
@@ -186,7 +191,8 @@ pub(crate) fn inst_path<'a>(net: &'a Net, inst: &Inst) -> &'a [Name]
 
 /// The first table of a path.
 pub(crate) fn table_named<'a>(tables: &'a [Table], path: &[Name]) -> Option<&'a Table>
-    ensures { option_map (λ t. seen_table t.now) result ≡ table_named (map seen_table tables.now) (name_texts path.now) }
+    ensures { option_map (λ t. seen_table t.now) result
+        ≡ table_named (map seen_table tables.now) (name_texts path.now) }
 {
     for t in tables {
         if same_path(path, t.path.as_slice()) {
@@ -264,9 +270,9 @@ fn ports_misfit(net: &Net, tables: &[Table]) -> Option<FitsFault>
     None
 }
 
-/// Why tables don't fit a network: an instrument has no table, a table names no instrument, or the ports of an instrument
-/// and its table differ in names or widths, in any order; the causes in this order, and of one cause the first instrument
-/// or table. `None` where they fit. It takes no memory.
+/// Why tables don't fit a network: an instrument has no table, a table names no instrument, or the ports of
+/// an instrument and its table differ in names or widths, in any order; the causes in this order, and of one
+/// cause the first instrument or table. `None` where they fit. It takes no memory.
 #[tactic(auto, unfolding(crate::specs::Fits::fitted))]
 pub fn misfit(net: &Net, tables: &List<Table>) -> Option<FitsFault>
     requires { IsNet net.now }

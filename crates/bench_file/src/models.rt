@@ -1,5 +1,6 @@
 // The models of a network's instruments.
-ghost use Rattle.std.specs.Prelude.{◌≡◌, ◌<◌, ◌≤◌, ℕ, [], map, length, option_map, All, IfOk, IsErrOf, Ok, Err, None};
+ghost use Rattle.std.specs.Prelude.{◌≡◌, ◌<◌, ◌≤◌, ℕ, [], map, length, option_map, All, IfOk, IsErrOf, Ok};
+ghost use Rattle.std.specs.Prelude.{Err, None};
 ghost use Rattle.ij_text.specs.declared.Place.{Place};
 ghost use Rattle.net_graph.specs.Nets.{IsNet, IsInst};
 ghost use Rattle.instruments.specs.Models.{IsModel};
@@ -7,7 +8,8 @@ ghost use Rattle.instruments.specs.Seen.{seen_model, seen_memory, seen_out, seen
 ghost use Rattle.table_file.specs.Answers.{seen_tables};
 ghost use Rattle.table_file.specs.Tables.{seen_table};
 ghost use Rattle.bench_file.specs.Answers.{GivesModels, seen_models};
-ghost use Rattle.bench_file.specs.Fits.{arranged, fitted, in_ports, misfit, model_for, models_from, out_named, out_ports, row_moved, ModelsFit};
+ghost use Rattle.bench_file.specs.Fits.{arranged, fitted, in_ports, misfit, model_for, models_from};
+ghost use Rattle.bench_file.specs.Fits.{out_named, out_ports, row_moved, ModelsFit};
 ghost use Rattle.bench_file.specs.declared.fault.FitsFault.{FitsFault};
 
 use crate::copying::{memory_copy, outs_named, port_defs, words_copy};
@@ -49,7 +51,8 @@ impl Fitted {
 /// The words and the memory of a model.
 fn cells(alloc: Global, m: &Model) -> Result<(List<WordDef>, Option<MemDef>), OutOfMemory>
     ensures words { IfOk result (λ cells. map seen_word cells.0.items ≡ map seen_word m.now.words.items) }
-    ensures memory { IfOk result (λ cells. option_map seen_memory cells.1 ≡ option_map seen_memory m.now.mem) }
+    ensures memory { IfOk result
+        (λ cells. option_map seen_memory cells.1 ≡ option_map seen_memory m.now.mem) }
 {
     let words = words_copy(alloc, m.words.as_slice())?;
     Ok((words, memory_copy(alloc, &m.mem)?))
@@ -63,18 +66,22 @@ fn ports(
 ) -> Result<(List<PortDef>, List<OutDef>), OutOfMemory>
     requires { All (λ port. length port.bits.items ≤ 64) inst.now.ins.items }
     ensures ins { IfOk result (λ ports. map seen_port ports.0.items ≡ in_ports inst.now) }
-    ensures outs { IfOk result (λ ports. map seen_out ports.1.items ≡ map (λ port. out_named (map seen_out m.now.outs.items) port.name) (out_ports inst.now)) }
+    ensures outs { IfOk result (λ ports. map seen_out ports.1.items
+        ≡ map (λ port. out_named (map seen_out m.now.outs.items) port.name) (out_ports inst.now)) }
 {
     let ins = port_defs(alloc, inst.ins.as_slice())?;
     let outs = outs_named(alloc, m.outs.as_slice(), inst.outs.as_slice())?;
     Ok((ins, outs))
 }
 
-/// The rows of a model, which name the inputs in the order of an instrument: those of a change and those of a run.
+/// The rows of a model, which name the inputs in the order of an instrument: those of a change and those of a
+/// run.
 fn rows(alloc: Global, inst: &Inst, m: &Model) -> Result<(List<RowDef>, List<RowDef>), OutOfMemory>
     requires { length inst.now.ins.items ≤ 16 }
-    ensures change { IfOk result (λ rows. map seen_row rows.0.items ≡ map (row_moved (map seen_port m.now.ins.items) (in_ports inst.now)) (map seen_row m.now.change.items)) }
-    ensures run { IfOk result (λ rows. map seen_row rows.1.items ≡ map (row_moved (map seen_port m.now.ins.items) (in_ports inst.now)) (map seen_row m.now.run.items)) }
+    ensures change { IfOk result (λ rows. map seen_row rows.0.items ≡ map
+        (row_moved (map seen_port m.now.ins.items) (in_ports inst.now)) (map seen_row m.now.change.items)) }
+    ensures run { IfOk result (λ rows. map seen_row rows.1.items ≡ map
+        (row_moved (map seen_port m.now.ins.items) (in_ports inst.now)) (map seen_row m.now.run.items)) }
 {
     let old = m.ins.as_slice();
     let new = inst.ins.as_slice();
@@ -106,7 +113,8 @@ fn arranged(alloc: Global, inst: &Inst, m: &Model) -> Result<Model, OutOfMemory>
 fn model_for(alloc: Global, i: u32, inst: &Inst, table: Option<&Table>) -> Result<Model, FitsFault>
     requires few { length inst.now.ins.items ≤ 16 }
     requires narrow { All (λ port. length port.bits.items ≤ 64) inst.now.ins.items }
-    ensures { GivesModels seen_model result (model_for i inst.now (option_map (λ t. seen_table t.now) table.entry)) }
+    ensures { GivesModels seen_model result
+        (model_for i inst.now (option_map (λ t. seen_table t.now) table.entry)) }
 {
     match table {
         None => Err(FitsFault::NoTable { inst: i }),
@@ -133,7 +141,8 @@ fn room_for(alloc: Global, n: usize) -> Result<List<Model>, OutOfMemory>
 fn models_from(alloc: Global, net: &Net, tables: &[Table]) -> Result<List<Model>, FitsFault>
     requires few { length net.now.insts.items ≤ 256 }
     requires insts { All (IsInst net.now) net.now.insts.items }
-    ensures { GivesModels seen_models result (models_from net.now (map seen_table tables.now) 0 net.now.insts.items) }
+    ensures { GivesModels seen_models result
+        (models_from net.now (map seen_table tables.now) 0 net.now.insts.items) }
 {
     let mut models = room_for(alloc, net.insts.len())?;
     for i in 0..net.insts.len() {
@@ -164,8 +173,8 @@ fn made(alloc: Global, net: &Net, tables: &List<Table>) -> Result<Fitted, OutOfM
 ///
 /// # Errors
 ///
-/// What [`misfit`] says, where the tables don't fit; then no memory was taken. Models that fit are new ones, and take memory by
-/// `alloc`; where there is none, the answer is `OutOfMemory`.
+/// What [`misfit`] says, where the tables don't fit; then no memory was taken. Models that fit are new ones,
+/// and take memory by `alloc`; where there is none, the answer is `OutOfMemory`.
 pub fn fits(alloc: Global, net: &Net, tables: &List<Table>) -> Result<Fitted, FitsFault>
     requires net { IsNet net.now }
     requires tables { All (λ t. IsModel (seen_model t.model)) tables.now.items }
@@ -173,10 +182,14 @@ pub fn fits(alloc: Global, net: &Net, tables: &List<Table>) -> Result<Fitted, Fi
     ensures fit { IfOk result (λ f. ModelsFit net.now (map seen_model f)) }
     ensures count { IfOk result (λ f. length f ≡ length net.now.insts.items) }
     ensures models { IfOk result (λ f. All (λ m. IsModel (seen_model m)) f) }
-    ensures refused { (fault : FitsFault) → fitted net.now (seen_tables tables.now) ≡ Err fault → IsErrOf result fault }
-    ensures missing { (inst : ℕ) → IsErrOf result (FitsFault.NoTable inst) → fitted net.now (seen_tables tables.now) ≡ Err (FitsFault.NoTable inst) }
-    ensures extra { (at : Place) → IsErrOf result (FitsFault.ExtraTable at) → fitted net.now (seen_tables tables.now) ≡ Err (FitsFault.ExtraTable at) }
-    ensures ports { (inst : ℕ) → IsErrOf result (FitsFault.PortWidth inst) → fitted net.now (seen_tables tables.now) ≡ Err (FitsFault.PortWidth inst) }
+    ensures refused { (fault : FitsFault)
+        → fitted net.now (seen_tables tables.now) ≡ Err fault → IsErrOf result fault }
+    ensures missing { (inst : ℕ) → IsErrOf result (FitsFault.NoTable inst)
+        → fitted net.now (seen_tables tables.now) ≡ Err (FitsFault.NoTable inst) }
+    ensures extra { (at : Place) → IsErrOf result (FitsFault.ExtraTable at)
+        → fitted net.now (seen_tables tables.now) ≡ Err (FitsFault.ExtraTable at) }
+    ensures ports { (inst : ℕ) → IsErrOf result (FitsFault.PortWidth inst)
+        → fitted net.now (seen_tables tables.now) ≡ Err (FitsFault.PortWidth inst) }
 {
     match misfit(net, tables) {
         Some(fault) => Err(fault),

@@ -2,7 +2,8 @@
 ghost use Rattle.std.specs.Prelude.{◌≡◌, ◌<◌, ◌≤◌, [], map, length, get_or, unwrap_or, IfOk, IfSome};
 ghost use Rattle.instruments.specs.Seen.{seen_port, seen_row};
 ghost use Rattle.table_file.specs.Tables.{named};
-ghost use Rattle.bench_file.specs.Fits.{in_port, input_names, moved, operand_moved, cond_moved, slot_moved, amount_moved, set_moved, row_moved};
+ghost use Rattle.bench_file.specs.Fits.{in_port, input_names, moved, operand_moved, cond_moved, slot_moved};
+ghost use Rattle.bench_file.specs.Fits.{amount_moved, set_moved, row_moved};
 
 use ij_bits::{List, OutOfMemory};
 use instruments::{Amount, Cond, Operand, PortDef, RowDef, Set, Slot};
@@ -116,7 +117,8 @@ fn conds_moved(
     new: &[PortIn],
 ) -> Result<List<Cond>, OutOfMemory>
     requires { length new.now ≤ 16 }
-    ensures { IfOk result (λ l. l.items ≡ map (cond_moved (map seen_port old.now) (map in_port new.now)) conds.now) }
+    ensures { IfOk result (λ l. l.items
+        ≡ map (cond_moved (map seen_port old.now) (map in_port new.now)) conds.now) }
 {
     let mut all = List::new(alloc);
     for c in conds {
@@ -132,7 +134,8 @@ fn sets_moved(
     new: &[PortIn],
 ) -> Result<List<Set>, OutOfMemory>
     requires { length new.now ≤ 16 }
-    ensures { IfOk result (λ l. l.items ≡ map (set_moved (map seen_port old.now) (map in_port new.now)) sets.now) }
+    ensures { IfOk result (λ l. l.items
+        ≡ map (set_moved (map seen_port old.now) (map in_port new.now)) sets.now) }
 {
     let mut all = List::new(alloc);
     for x in sets {
@@ -148,7 +151,8 @@ fn row_moved(
     new: &[PortIn],
 ) -> Result<RowDef, OutOfMemory>
     requires { length new.now ≤ 16 }
-    ensures { IfOk result (λ r. seen_row r ≡ row_moved (map seen_port old.now) (map in_port new.now) (seen_row row.now)) }
+    ensures { IfOk result (λ r. seen_row r
+        ≡ row_moved (map seen_port old.now) (map in_port new.now) (seen_row row.now)) }
 {
     Ok(RowDef {
         conds: conds_moved(alloc, row.conds.as_slice(), old, new)?,
@@ -164,7 +168,8 @@ pub(crate) fn rows_moved(
     new: &[PortIn],
 ) -> Result<List<RowDef>, OutOfMemory>
     requires { length new.now ≤ 16 }
-    ensures { IfOk result (λ l. map seen_row l.items ≡ map (row_moved (map seen_port old.now) (map in_port new.now)) (map seen_row rows.now)) }
+    ensures { IfOk result (λ l. map seen_row l.items
+        ≡ map (row_moved (map seen_port old.now) (map in_port new.now)) (map seen_row rows.now)) }
 {
     let mut all = List::new(alloc);
     for row in rows {

@@ -14,4 +14,5 @@ use Rattle.tap_machine.specs.Play.{pins, scans_in}
 abbrev pub made_report : Net → Device → List SeenModel → List SeenCommand → ℕ → List ℕ
 made_report net device models commands groups =
     totals_text
-    (Made (length net.regs.items) (length net.muxes.items) (length net.insts.items) groups (scans_in commands) (length (pins InReset 0 commands)) (length (differs_of net device models commands)))
+    (Made (length net.regs.items) (length net.muxes.items) (length net.insts.items) groups (scans_in commands)
+    (length (pins InReset 0 commands)) (length (differs_of net device models commands)))

@@ -1,4 +1,5 @@
--- What is printed of a play of SVF commands on the bench of a network with its instruments (Serial Vector Format, revision E).
+-- What is printed of a play of SVF commands on the bench of a network with its instruments (Serial Vector
+-- Format, revision E).
 use Rattle.std.specs.Prelude.{ℕ, suc, Bool, List, [], ◌∷◌, ◌++◌, map, get_or, length, Option, None}
 use Rattle.instruments.specs.After.{machine_of}
 use Rattle.instruments.specs.Machine.{count_log}
@@ -41,7 +42,13 @@ compare_at p expect found = record { scan = p.scan; bit = p.bit; expect = expect
 abbrev pub named_lines : Names → List Compare → List ℕ
 named_lines names [] = []
 named_lines names (c ∷ cs) =
-    differ_text (record { scan = c.scan; bit = c.bit; expect = c.expect; found = c.found; read = names c.scan c.bit }) ++ named_lines names cs
+    differ_text (record {
+      scan = c.scan;
+      bit = c.bit;
+      expect = c.expect;
+      found = c.found;
+      read = names c.scan c.bit;
+    }) ++ named_lines names cs
 
 -- how often an instrument had each kind of event
 abbrev pub counts_at : List (Running Counts) → ℕ → Counts
@@ -49,7 +56,8 @@ counts_at insts i = get_or (map (λ x. x.log) insts) i count_log.none
 
 -- the instrument at a place, by its model
 abbrev pub inst_text : Net → List (Running Counts) → ℕ → SeenModel → List ℕ
-inst_text net insts i m = instrument_text net m i (inner_at insts i).words (inner_at insts i).memory (counts_at insts i)
+inst_text net insts i m =
+    instrument_text net m i (inner_at insts i).words (inner_at insts i).memory (counts_at insts i)
 
 -- the instruments of some models, the first of which is at place i
 abbrev pub instruments_from : Net → List (Running Counts) → ℕ → List SeenModel → List ℕ
@@ -77,7 +85,8 @@ abbrev pub named_report : Names → Net → Device → List SeenModel → List S
 named_report names net device models commands =
     let differs = differs_of net device models commands in
     named_lines names differs
-    ++ (state_text net models (play_from (chip net device models) 0 commands (power_up (chip net device models)))
+    ++ (state_text net models
+    (play_from (chip net device models) 0 commands (power_up (chip net device models)))
     ++ play_text (scans_in commands) (length (pins InReset 0 commands)) (length differs))
 
 -- the same with no iReads: a play of SVF alone

@@ -27,8 +27,10 @@ fn put_named<N: ReadNames, K: Sink>(
     found: bool,
     k: &mut K,
 ) -> Result<(), StoreFault>
-    ensures whole { OnOk result ((ns : Names) → N.AreNames names.old ns → Adds (K.taken k.old) (K.taken k.new) (named_lines ns (compare_at pins.now expect found ∷ []))) }
-    ensures part { OnErr result ((ns : Names) → N.AreNames names.old ns → AddsPart (K.taken k.old) (K.taken k.new) (named_lines ns (compare_at pins.now expect found ∷ []))) }
+    ensures whole { OnOk result ((ns : Names) → N.AreNames names.old ns
+        → Adds (K.taken k.old) (K.taken k.new) (named_lines ns (compare_at pins.now expect found ∷ []))) }
+    ensures part { OnErr result ((ns : Names) → N.AreNames names.old ns
+        → AddsPart (K.taken k.old) (K.taken k.new) (named_lines ns (compare_at pins.now expect found ∷ []))) }
     ensures cause { HasCause (K.faults k.old) (K.faults k.new) result StoreFault.Failed }
     ensures names { (ns : Names) → N.AreNames names.old ns → N.AreNames names.new ns }
 {
@@ -49,9 +51,12 @@ fn put_compare<N: ReadNames, K: Sink>(
     found: bool,
     k: &mut K,
 ) -> Result<u64, StoreFault>
-    ensures whole { OnOk result ((ns : Names) → N.AreNames names.old ns → Adds (K.taken k.old) (K.taken k.new) (named_lines ns (differing (compare_of pins.expect pins.scan pins.bit found)))) }
-    ensures count { IfOk result (λ n. n ≡ length (differing (compare_of pins.expect pins.scan pins.bit found))) }
-    ensures part { OnErr result ((ns : Names) → N.AreNames names.old ns → AddsPart (K.taken k.old) (K.taken k.new) (named_lines ns (differing (compare_of pins.expect pins.scan pins.bit found)))) }
+    ensures whole { OnOk result ((ns : Names) → N.AreNames names.old ns → Adds (K.taken k.old) (K.taken k.new)
+        (named_lines ns (differing (compare_of pins.expect pins.scan pins.bit found)))) }
+    ensures count { IfOk result
+        (λ n. n ≡ length (differing (compare_of pins.expect pins.scan pins.bit found))) }
+    ensures part { OnErr result ((ns : Names) → N.AreNames names.old ns → AddsPart (K.taken k.old)
+        (K.taken k.new) (named_lines ns (differing (compare_of pins.expect pins.scan pins.bit found)))) }
     ensures cause { HasCause (K.faults k.old) (K.faults k.new) result StoreFault.Failed }
     ensures names { (ns : Names) → N.AreNames names.old ns → N.AreNames names.new ns }
 {
@@ -72,9 +77,11 @@ fn put_piece<N: ReadNames, K: Sink>(
 ) -> Result<u64, StoreFault>
     requires few { played.now.piece.count ≤ 64 }
     requires short { played.now.piece.bit + played.now.piece.count < 2 ^ 32 }
-    ensures whole { OnOk result ((ns : Names) → N.AreNames names.old ns → Adds (K.taken k.old) (K.taken k.new) (named_lines ns (differing (piece_compares played.now)))) }
+    ensures whole { OnOk result ((ns : Names) → N.AreNames names.old ns
+        → Adds (K.taken k.old) (K.taken k.new) (named_lines ns (differing (piece_compares played.now)))) }
     ensures count { IfOk result (λ n. n ≡ length (differing (piece_compares played.now))) }
-    ensures part { OnErr result ((ns : Names) → N.AreNames names.old ns → AddsPart (K.taken k.old) (K.taken k.new) (named_lines ns (differing (piece_compares played.now)))) }
+    ensures part { OnErr result ((ns : Names) → N.AreNames names.old ns
+        → AddsPart (K.taken k.old) (K.taken k.new) (named_lines ns (differing (piece_compares played.now)))) }
     ensures cause { HasCause (K.faults k.old) (K.faults k.new) result StoreFault.Failed }
     ensures names { (ns : Names) → N.AreNames names.old ns → N.AreNames names.new ns }
 {
@@ -95,11 +102,15 @@ pub(crate) fn put_compares<N: ReadNames, K: Sink>(
     k: &mut K,
 ) -> Result<Counted, StoreFault>
     requires { length player.old.pins ≤ 1000000000 }
-    ensures state { OnOk result (bench.new ≡ record bench.old { state = after_pins (chip_of bench.old) player.old.pins bench.old.state }) }
-    ensures whole { OnOk result ((ns : Names) → N.AreNames names.old ns → Adds (K.taken k.old) (K.taken k.new) (named_lines ns (differing (compares (chip_of bench.old) player.old.pins bench.old.state)))) }
+    ensures state { OnOk result (bench.new
+        ≡ record bench.old { state = after_pins (chip_of bench.old) player.old.pins bench.old.state }) }
+    ensures whole { OnOk result ((ns : Names) → N.AreNames names.old ns → Adds (K.taken k.old) (K.taken k.new)
+        (named_lines ns (differing (compares (chip_of bench.old) player.old.pins bench.old.state)))) }
     ensures clocks { IfOk result (λ c. c.clocks ≡ length player.old.pins) }
-    ensures differs { IfOk result (λ c. c.differs ≡ length (differing (compares (chip_of bench.old) player.old.pins bench.old.state))) }
-    ensures part { OnErr result ((ns : Names) → N.AreNames names.old ns → AddsPart (K.taken k.old) (K.taken k.new) (named_lines ns (differing (compares (chip_of bench.old) player.old.pins bench.old.state)))) }
+    ensures differs { IfOk result
+        (λ c. c.differs ≡ length (differing (compares (chip_of bench.old) player.old.pins bench.old.state))) }
+    ensures part { OnErr result ((ns : Names) → N.AreNames names.old ns → AddsPart (K.taken k.old) (K.taken
+        k.new) (named_lines ns (differing (compares (chip_of bench.old) player.old.pins bench.old.state)))) }
     ensures cause { HasCause (K.faults k.old) (K.faults k.new) result StoreFault.Failed }
 {
     let mut clocks = 0u64;

@@ -1,5 +1,5 @@
-//! Plays SVF commands on the bench of any network, and prints what came of it: a report, or one line with the size of the
-//! network and the totals of the play.
+//! Plays SVF commands on the bench of any network, and prints what came of it: a report, or one line with the
+//! size of the network and the totals of the play.
 #![tactic(auto)]
 
 mod compares;

@@ -21,15 +21,16 @@ use svf_writer::Commands;
 use tap_machine::scan_count;
 
 /// Plays commands from power-up on a device with a scan network and its instruments, and prints one line:
-/// `made registers R muxes M instruments I groups G scans S clocks C differs D`. R, M and I are what the network has (IEEE 1687-2014),
-/// G is `groups`, the number of groups that the procedure's iApply commands make, S, C and D are the scans, the clocks of TCK and the
-/// compares that differ (Serial Vector Format, revision E). `models` has a model for each instrument, in the network's order. Answers
-/// how many compares differ.
+/// `made registers R muxes M instruments I groups G scans S clocks C differs D`. R, M and I are what the
+/// network has (IEEE 1687-2014), G is `groups`, the number of groups that the procedure's iApply commands
+/// make, S, C and D are the scans, the clocks of TCK and the compares that differ (Serial Vector Format,
+/// revision E). `models` has a model for each instrument, in the network's order. Answers how many compares
+/// differ.
 ///
 /// # Errors
 ///
-/// Those of the sink, which then took some first bytes of the line, and `OutOfMemory` where there is no memory for the bench. The play
-/// itself takes none.
+/// Those of the sink, which then took some first bytes of the line, and `OutOfMemory` where there is no
+/// memory for the bench. The play itself takes none.
 pub fn put_made<K: Sink>(
     alloc: Global,
     net: &Net,
@@ -43,9 +44,12 @@ pub fn put_made<K: Sink>(
     requires models { AreModels net.now models.now.items }
     requires clocks { length (pins InReset 0 commands.now) ≤ 1000000000 }
     requires scans { scans_in commands.now ≤ 1000000000 }
-    ensures whole { OnOk result (Adds (K.taken k.old) (K.taken k.new) (made_report net.now device.now (map seen_model models.now.items) commands.now groups)) }
-    ensures differs { IfOk result (λ n. n ≡ length (differs_of net.now device.now (map seen_model models.now.items) commands.now)) }
-    ensures part { OnErr result (AddsPart (K.taken k.old) (K.taken k.new) (made_report net.now device.now (map seen_model models.now.items) commands.now groups)) }
+    ensures whole { OnOk result (Adds (K.taken k.old) (K.taken k.new)
+        (made_report net.now device.now (map seen_model models.now.items) commands.now groups)) }
+    ensures differs { IfOk result
+        (λ n. n ≡ length (differs_of net.now device.now (map seen_model models.now.items) commands.now)) }
+    ensures part { OnErr result (AddsPart (K.taken k.old) (K.taken k.new)
+        (made_report net.now device.now (map seen_model models.now.items) commands.now groups)) }
     ensures cause { HasCause (K.faults k.old) (K.faults k.new) result StoreFault.Failed }
 {
     let counted = played(alloc, net, device, models, commands)?;

@@ -55,7 +55,8 @@ fn differs_in(played: &Played) -> u64
 fn count_play(player: &mut Player, bench: &mut Bench) -> Counted
     requires { length player.old.pins ≤ 1000000000 }
     ensures clocks { result.clocks ≡ length player.old.pins }
-    ensures differs { result.differs ≡ length (differing (compares (chip_of bench.old) player.old.pins bench.old.state)) }
+    ensures differs { result.differs
+        ≡ length (differing (compares (chip_of bench.old) player.old.pins bench.old.state)) }
 {
     let mut clocks = 0u64;
     let mut differs = 0u64;
@@ -79,7 +80,8 @@ pub(crate) fn played(
     requires clocks { length (pins InReset 0 commands.now) ≤ 1000000000 }
     requires scans { scans_in commands.now ≤ 1000000000 }
     ensures clocks { IfOk result (λ c. c.clocks ≡ length (pins InReset 0 commands.now)) }
-    ensures differs { IfOk result (λ c. c.differs ≡ length (differs_of net.now device.now (map seen_model models.now.items) commands.now)) }
+    ensures differs { IfOk result (λ c. c.differs
+        ≡ length (differs_of net.now device.now (map seen_model models.now.items) commands.now)) }
 {
     let mut bench = Bench::new(alloc, net, device, models)?;
     let mut player = Player::new(Stable::Reset, 0, commands);

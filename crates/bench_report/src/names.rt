@@ -10,14 +10,15 @@ pub trait ReadNames {
     /// Whether these are the iReads of all compares, by scan and by position in the scan.
     ghost AreNames: { Self → Names → Type 0 };
 
-    /// The iRead of the compare at a position of a scan, if there is one. Scans are counted from 1, and position 0 is the first at TDO.
-    /// In whatever order it is asked, the answers are the same.
+    /// The iRead of the compare at a position of a scan, if there is one. Scans are counted from 1, and
+    /// position 0 is the first at TDO. In whatever order it is asked, the answers are the same.
     ///
     /// # Errors
     ///
     /// `OutOfMemory`: there was no memory to find it.
     fn read_at(&mut self, scan: u32, bit: u32) -> Result<Option<ReadBit>, OutOfMemory>
-        ensures found { IfOk result (λ read. (names : Names) → AreNames self.old names → read ≡ names scan bit) }
+        ensures found { IfOk result (λ read. (names : Names)
+            → AreNames self.old names → read ≡ names scan bit) }
         ensures same { (names : Names) → AreNames self.old names → AreNames self.new names };
 }
 

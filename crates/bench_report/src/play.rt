@@ -39,9 +39,12 @@ fn put_report<N: ReadNames, K: Sink>(
     requires start { bench.old.state ≡ power_up (chip_of bench.old) }
     requires clocks { length (pins InReset 0 commands.now) ≤ 1000000000 }
     requires scans { scans_in commands.now ≤ 1000000000 }
-    ensures whole { OnOk result ((ns : Names) → N.AreNames names.old ns → Adds (K.taken k.old) (K.taken k.new) (named_report ns net.now bench.old.device (map seen_model models.now.items) commands.now)) }
-    ensures differs { IfOk result (λ n. n ≡ length (differs_of net.now bench.old.device (map seen_model models.now.items) commands.now)) }
-    ensures part { OnErr result ((ns : Names) → N.AreNames names.old ns → AddsPart (K.taken k.old) (K.taken k.new) (named_report ns net.now bench.old.device (map seen_model models.now.items) commands.now)) }
+    ensures whole { OnOk result ((ns : Names) → N.AreNames names.old ns → Adds (K.taken k.old) (K.taken k.new)
+        (named_report ns net.now bench.old.device (map seen_model models.now.items) commands.now)) }
+    ensures differs { IfOk result (λ n. n
+        ≡ length (differs_of net.now bench.old.device (map seen_model models.now.items) commands.now)) }
+    ensures part { OnErr result ((ns : Names) → N.AreNames names.old ns → AddsPart (K.taken k.old) (K.taken
+        k.new) (named_report ns net.now bench.old.device (map seen_model models.now.items) commands.now)) }
     ensures cause { HasCause (K.faults k.old) (K.faults k.new) result StoreFault.Failed }
 {
     let scans = scan_count(commands);
@@ -57,15 +60,16 @@ fn put_report<N: ReadNames, K: Sink>(
     Ok(counted.differs)
 }
 
-/// Plays commands from power-up on a device with a scan network and its instruments, and prints a line for each compare that differs,
-/// with the iRead that it is, what each register and each instrument holds at the end, and the totals (Serial Vector Format,
-/// revision E; IEEE 1687-2014, hardware rules and PDL level 0: iRead). `models` has a model for each instrument, in the network's
-/// order. Answers how many compares differ.
+/// Plays commands from power-up on a device with a scan network and its instruments, and prints a line for
+/// each compare that differs, with the iRead that it is, what each register and each instrument holds at the
+/// end, and the totals (Serial Vector Format, revision E; IEEE 1687-2014, hardware rules and PDL level 0:
+/// iRead). `models` has a model for each instrument, in the network's order. Answers how many compares
+/// differ.
 ///
 /// # Errors
 ///
-/// Those of the sink, which then took some first bytes of the report, and `OutOfMemory` where there is no memory for the bench or to find
-/// an iRead. The play itself takes none.
+/// Those of the sink, which then took some first bytes of the report, and `OutOfMemory` where there is no
+/// memory for the bench or to find an iRead. The play itself takes none.
 pub fn put_named_play<N: ReadNames, K: Sink>(
     alloc: Global,
     net: &Net,
@@ -79,23 +83,27 @@ pub fn put_named_play<N: ReadNames, K: Sink>(
     requires models { AreModels net.now models.now.items }
     requires clocks { length (pins InReset 0 commands.now) ≤ 1000000000 }
     requires scans { scans_in commands.now ≤ 1000000000 }
-    ensures whole { OnOk result ((ns : Names) → N.AreNames names.old ns → Adds (K.taken k.old) (K.taken k.new) (named_report ns net.now device.now (map seen_model models.now.items) commands.now)) }
-    ensures differs { IfOk result (λ n. n ≡ length (differs_of net.now device.now (map seen_model models.now.items) commands.now)) }
-    ensures part { OnErr result ((ns : Names) → N.AreNames names.old ns → AddsPart (K.taken k.old) (K.taken k.new) (named_report ns net.now device.now (map seen_model models.now.items) commands.now)) }
+    ensures whole { OnOk result ((ns : Names) → N.AreNames names.old ns → Adds (K.taken k.old) (K.taken k.new)
+        (named_report ns net.now device.now (map seen_model models.now.items) commands.now)) }
+    ensures differs { IfOk result
+        (λ n. n ≡ length (differs_of net.now device.now (map seen_model models.now.items) commands.now)) }
+    ensures part { OnErr result ((ns : Names) → N.AreNames names.old ns → AddsPart (K.taken k.old)
+        (K.taken k.new) (named_report ns net.now device.now (map seen_model models.now.items) commands.now)) }
     ensures cause { HasCause (K.faults k.old) (K.faults k.new) result StoreFault.Failed }
 {
     let mut bench = Bench::new(alloc, net, device, models)?;
     put_report(names, &mut bench, net, models, commands, k)
 }
 
-/// Plays commands from power-up on a device with a scan network and its instruments, and prints a line for each compare that differs,
-/// what each register and each instrument holds at the end, and the totals (Serial Vector Format, revision E; IEEE 1687-2014, hardware
-/// rules). `models` has a model for each instrument, in the network's order. Answers how many compares differ.
+/// Plays commands from power-up on a device with a scan network and its instruments, and prints a line for
+/// each compare that differs, what each register and each instrument holds at the end, and the totals (Serial
+/// Vector Format, revision E; IEEE 1687-2014, hardware rules). `models` has a model for each instrument, in
+/// the network's order. Answers how many compares differ.
 ///
 /// # Errors
 ///
-/// Those of the sink, which then took some first bytes of the report, and `OutOfMemory` where there is no memory for the bench. The
-/// play itself takes none.
+/// Those of the sink, which then took some first bytes of the report, and `OutOfMemory` where there is no
+/// memory for the bench. The play itself takes none.
 pub fn put_play<K: Sink>(
     alloc: Global,
     net: &Net,
@@ -108,9 +116,12 @@ pub fn put_play<K: Sink>(
     requires models { AreModels net.now models.now.items }
     requires clocks { length (pins InReset 0 commands.now) ≤ 1000000000 }
     requires scans { scans_in commands.now ≤ 1000000000 }
-    ensures whole { OnOk result (Adds (K.taken k.old) (K.taken k.new) (play_report net.now device.now (map seen_model models.now.items) commands.now)) }
-    ensures differs { IfOk result (λ n. n ≡ length (differs_of net.now device.now (map seen_model models.now.items) commands.now)) }
-    ensures part { OnErr result (AddsPart (K.taken k.old) (K.taken k.new) (play_report net.now device.now (map seen_model models.now.items) commands.now)) }
+    ensures whole { OnOk result (Adds (K.taken k.old) (K.taken k.new)
+        (play_report net.now device.now (map seen_model models.now.items) commands.now)) }
+    ensures differs { IfOk result
+        (λ n. n ≡ length (differs_of net.now device.now (map seen_model models.now.items) commands.now)) }
+    ensures part { OnErr result (AddsPart (K.taken k.old) (K.taken k.new)
+        (play_report net.now device.now (map seen_model models.now.items) commands.now)) }
     ensures cause { HasCause (K.faults k.old) (K.faults k.new) result StoreFault.Failed }
 {
     put_named_play(alloc, net, device, models, commands, &mut NoNames, k)

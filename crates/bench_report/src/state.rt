@@ -31,7 +31,8 @@ fn words_of(bench: &Bench, inst: u32) -> [u64; 8]
 /// The numbers of an instrument's memory, 0 after the last one.
 fn memory_of(bench: &Bench, inst: u32) -> [u64; 256]
     requires { inst < length bench.now.state.insts }
-    ensures { (k : ℕ) → k < 256 → get_or result k 0 ≡ get_or (inner_at bench.now.state.insts inst).memory k 0 }
+    ensures { (k : ℕ) → k < 256
+        → get_or result k 0 ≡ get_or (inner_at bench.now.state.insts inst).memory k 0 }
 {
     let mut memory = [0u64; 256];
     for i in 0..256usize {
@@ -52,8 +53,10 @@ fn put_one<K: Sink>(
     requires model { IsModel (seen_model model.now) }
     requires there { inst < length net.now.insts.items }
     requires running { inst < length bench.now.state.insts }
-    ensures whole { OnOk result (Adds (K.taken k.old) (K.taken k.new) (inst_text net.now bench.now.state.insts inst (seen_model model.now))) }
-    ensures part { OnErr result (AddsPart (K.taken k.old) (K.taken k.new) (inst_text net.now bench.now.state.insts inst (seen_model model.now))) }
+    ensures whole { OnOk result (Adds (K.taken k.old) (K.taken k.new)
+        (inst_text net.now bench.now.state.insts inst (seen_model model.now))) }
+    ensures part { OnErr result (AddsPart (K.taken k.old) (K.taken k.new)
+        (inst_text net.now bench.now.state.insts inst (seen_model model.now))) }
     ensures cause { HasCause (K.faults k.old) (K.faults k.new) result StoreFault.Failed }
 {
     let words = words_of(bench, inst);
@@ -71,8 +74,10 @@ fn put_instruments<K: Sink>(
     requires well_formed { IsNet net.now }
     requires models { AreModels net.now models.now.items }
     requires bench { bench.now.models ≡ models.now.items }
-    ensures whole { OnOk result (Adds (K.taken k.old) (K.taken k.new) (instruments_text net.now (map seen_model models.now.items) bench.now.state.insts)) }
-    ensures part { OnErr result (AddsPart (K.taken k.old) (K.taken k.new) (instruments_text net.now (map seen_model models.now.items) bench.now.state.insts)) }
+    ensures whole { OnOk result (Adds (K.taken k.old) (K.taken k.new)
+        (instruments_text net.now (map seen_model models.now.items) bench.now.state.insts)) }
+    ensures part { OnErr result (AddsPart (K.taken k.old) (K.taken k.new)
+        (instruments_text net.now (map seen_model models.now.items) bench.now.state.insts)) }
     ensures cause { HasCause (K.faults k.old) (K.faults k.new) result StoreFault.Failed }
 {
     let _running = bench.instruments();
@@ -93,8 +98,10 @@ pub(crate) fn put_state<K: Sink>(
     requires models { AreModels net.now models.now.items }
     requires net { bench.now.net ≡ net.now }
     requires bench { bench.now.models ≡ models.now.items }
-    ensures whole { OnOk result (Adds (K.taken k.old) (K.taken k.new) (state_text net.now (map seen_model models.now.items) bench.now.state)) }
-    ensures part { OnErr result (AddsPart (K.taken k.old) (K.taken k.new) (state_text net.now (map seen_model models.now.items) bench.now.state)) }
+    ensures whole { OnOk result (Adds (K.taken k.old) (K.taken k.new)
+        (state_text net.now (map seen_model models.now.items) bench.now.state)) }
+    ensures part { OnErr result (AddsPart (K.taken k.old) (K.taken k.new)
+        (state_text net.now (map seen_model models.now.items) bench.now.state)) }
     ensures cause { HasCause (K.faults k.old) (K.faults k.new) result StoreFault.Failed }
 {
     put_registers(net, bench.holds(), k)?;

@@ -5,7 +5,9 @@ use Rattle.icl_lexer.specs.declared.tree.PortKind.{PortKind}
 use Rattle.icl_lexer.specs.declared.tree.Sign.TheVariants.{Minus}
 use Rattle.icl_lexer.specs.Views.{seen_item}
 use Rattle.design_maker.specs.declared.items.Items.{Items}
-use Rattle.icl_lexer.specs.Values.{SeenExpr, ADecimal, ASized, AQuoted, AParam, AnOp, SeenRange, APath, SeenSig, ASource, SeenRow, SeenBind, ABoundPort, ABoundParameter, SeenWhat, APort, AChild, AParameter, AnInterface, AnAttribute, SeenItem, SeenModule}
+use Rattle.icl_lexer.specs.Values.{SeenExpr, ADecimal, ASized, AQuoted, AParam, AnOp, SeenRange, APath}
+use Rattle.icl_lexer.specs.Values.{SeenSig, ASource, SeenRow, SeenBind, ABoundPort, ABoundParameter, SeenWhat}
+use Rattle.icl_lexer.specs.Values.{APort, AChild, AParameter, AnInterface, AnAttribute, SeenItem, SeenModule}
 use Rattle.ij_text.specs.Places.{no_place}
 
 abbrev pub module_of : List ℕ → List SeenItem → SeenModule
@@ -22,7 +24,8 @@ the_width = AParam no_place (codes "W")
 
 -- `[$W-1:0]`
 abbrev pub whole_width : SeenRange
-whole_width = record { at = no_place; left = AnOp no_place Minus the_width (ADecimal 1); right = Some (ADecimal 0) }
+whole_width =
+    record { at = no_place; left = AnOp no_place Minus the_width (ADecimal 1); right = Some (ADecimal 0) }
 
 -- `[0]`
 abbrev pub lowest : SeenRange

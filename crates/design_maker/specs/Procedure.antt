@@ -1,5 +1,7 @@
--- The procedure of a made design: turns, each of which writes one instrument, waits, and reads it (IEEE 1687-2014, PDL level 0).
-use Rattle.std.specs.Prelude.{ℕ, zero, suc, ◌+◌, ◌*◌, ◌%◌, ◌^◌, ◌==◌, cond, List, [], ◌∷◌, ◌++◌, map, get_or, length, codes, decimal}
+-- The procedure of a made design: turns, each of which writes one instrument, waits, and reads it (IEEE
+-- 1687-2014, PDL level 0).
+use Rattle.std.specs.Prelude.{ℕ, zero, suc, ◌+◌, ◌*◌, ◌%◌, ◌^◌, ◌==◌, cond, List, [], ◌∷◌, ◌++◌, map, get_or}
+use Rattle.std.specs.Prelude.{length, codes, decimal}
 use Rattle.rand_pcg.specs.Lcg.{Lcg}
 use Rattle.design_maker.specs.Draws.{draw}
 use Rattle.design_maker.specs.declared.instrument.Instrument.{Instrument}
@@ -29,7 +31,8 @@ word_at xs k = get_or (map (λ x. x.word) xs) k 0
 
 -- ---- turns
 
--- what a turn draws: an instrument by its place, the number that is written, the cycles of the run, in this order
+-- what a turn draws: an instrument by its place, the number that is written, the cycles of the run, in this
+-- order
 abbrev pub drawn_turn : List Instrument → Lcg → Turn × Lcg
 drawn_turn xs g =
     let at = draw (length xs) g in
@@ -44,8 +47,10 @@ after_turn t xs = map (run t.cycles) (change_at t.at (written t.value) xs)
 -- its commands, where the instrument then holds this word. Instruments are counted from 1
 unfoldable pub turn_text : Turn → ℕ → List ℕ
 turn_text t word =
-    codes "  iWrite net.w" ++ (decimal (suc t.at) ++ (codes ".ins.d " ++ (decimal t.value ++ (codes "\n  iApply\n  iRunLoop " ++ (decimal t.cycles
-    ++ (codes "\n  iRead net.w" ++ (decimal (suc t.at) ++ (codes ".ins.q " ++ (decimal word ++ codes "\n  iApply\n")))))))))
+    codes "  iWrite net.w" ++ (decimal (suc t.at)
+    ++ (codes ".ins.d " ++ (decimal t.value ++ (codes "\n  iApply\n  iRunLoop " ++ (decimal t.cycles
+    ++ (codes "\n  iRead net.w"
+    ++ (decimal (suc t.at) ++ (codes ".ins.q " ++ (decimal word ++ codes "\n  iApply\n")))))))))
 
 -- so many turns
 abbrev pub turns_text : ℕ → List Instrument → Lcg → List ℕ
@@ -57,4 +62,5 @@ turns_text (suc n) xs g =
 
 -- two turns for each instrument
 unfoldable pub procedure_text : List Instrument → Lcg → List ℕ
-procedure_text xs g = codes "iProcsForModule chip\niProc p {} {\n" ++ (turns_text (2 * length xs) xs g ++ codes "}\n")
+procedure_text xs g = codes "iProcsForModule chip\niProc p {} {\n"
+    ++ (turns_text (2 * length xs) xs g ++ codes "}\n")

@@ -6,7 +6,8 @@ use Rattle.design_maker.specs.declared.instrument.Instrument.{Instrument}
 -- a word that takes the input when it changes, and counts cycles of Run-Test/Idle
 unfoldable pub table_text : ℕ → ℕ → List ℕ
 table_text i width =
-    codes "instrument net.w" ++ (decimal i ++ (codes ".ins\nin d " ++ (decimal width ++ (codes "\nword v " ++ (decimal width ++ codes "\nout q = v\nchange do v = d\nrun do v = v + 1\nend\n")))))
+    codes "instrument net.w" ++ (decimal i ++ (codes ".ins\nin d " ++ (decimal width ++ (codes "\nword v "
+    ++ (decimal width ++ codes "\nout q = v\nchange do v = d\nrun do v = v + 1\nend\n")))))
 
 abbrev pub instrument_table : ℕ → Instrument → List ℕ
 instrument_table i x = table_text i x.width

@@ -2,8 +2,11 @@
 ghost use Rattle.std.specs.Prelude.{◌≡◌, ◌≤◌, [], ◌∷◌, length, map, Some, None, OnOk, IfOk};
 ghost use Rattle.ij_bits.specs.Room.{seen_list};
 ghost use Rattle.icl_lexer.specs.Values.{ASized, APort};
-ghost use Rattle.icl_lexer.specs.Views.{seen_bind, seen_expr, seen_few, seen_module, seen_prop, seen_row, seen_sig, seen_what};
-ghost use Rattle.design_maker.specs.Parts.{HasAdded, attribute, bound, bound_width, instance, interface, item, module_of, mux_row, port, seen_items, signal, sourced, wide_port, width_parameter};
+ghost use Rattle.icl_lexer.specs.Views.{seen_bind, seen_expr, seen_few, seen_module, seen_prop, seen_row};
+ghost use Rattle.icl_lexer.specs.Views.{seen_sig, seen_what};
+ghost use Rattle.design_maker.specs.Parts.{HasAdded, attribute, bound, bound_width, instance, interface};
+ghost use Rattle.design_maker.specs.Parts.{item, module_of, mux_row, port, seen_items, signal, sourced};
+ghost use Rattle.design_maker.specs.Parts.{wide_port, width_parameter};
 
 use crate::signals::{NOWHERE, names, one, signal, whole_width};
 use icl_lexer::{Bind, Expr, Few, Item, Module, MuxRow, PortKind, Prop, Sig, SmallText, What};
@@ -66,7 +69,8 @@ impl Items {
     /// A port with one property.
     #[tactic(auto, unfolding(crate::specs::Parts::HasAdded))]
     pub fn port_with(&mut self, kind: PortKind, name: &[u8], prop: Prop) -> Result<(), OutOfMemory>
-        ensures { OnOk result (HasAdded self.old self.new (item name.now (APort kind None (seen_prop prop ∷ [])) ∷ [])) }
+        ensures { OnOk result
+            (HasAdded self.old self.new (item name.now (APort kind None (seen_prop prop ∷ [])) ∷ [])) }
     {
         let props = one(self.alloc, prop)?;
         self.add(
@@ -101,7 +105,8 @@ impl Items {
     /// A scan interface with these ports.
     #[tactic(auto, unfolding(crate::specs::Parts::HasAdded))]
     pub fn interface(&mut self, name: &[u8], ports: &[&[u8]]) -> Result<(), OutOfMemory>
-        ensures { OnOk result (HasAdded self.old self.new (interface name.now (map (λ word. word.now) ports.now) ∷ [])) }
+        ensures { OnOk result
+            (HasAdded self.old self.new (interface name.now (map (λ word. word.now) ports.now) ∷ [])) }
     {
         let ports = names(self.alloc, ports)?;
         self.add(name, What::Interface { ports })
@@ -138,7 +143,8 @@ impl Items {
         of_module: &[u8],
         binds: List<Bind>,
     ) -> Result<(), OutOfMemory>
-        ensures { OnOk result (HasAdded self.old self.new (instance name.now of_module.now (seen_list seen_bind binds) ∷ [])) }
+        ensures { OnOk result
+            (HasAdded self.old self.new (instance name.now of_module.now (seen_list seen_bind binds) ∷ [])) }
     {
         let module = SmallText::of(self.alloc, of_module)?;
         self.add(name, What::Child { module, binds })

@@ -4,7 +4,9 @@ ghost use Rattle.icl_lexer.specs.Values.{ALink};
 ghost use Rattle.icl_lexer.specs.declared.tree.LinkKind.{LinkKind};
 ghost use Rattle.icl_lexer.specs.Views.{seen_instr, seen_module};
 ghost use Rattle.design_maker.specs.Parts.{HasAdded, item};
-ghost use Rattle.design_maker.specs.Modules.{chip_module, client_side, data_register, host_side, inner_instrument, ins_module, link_instruction, segment_mux, select_bit, sib_module, wrap_module, wrap_ports};
+ghost use Rattle.design_maker.specs.Modules.{chip_module, client_side, data_register, host_side};
+ghost use Rattle.design_maker.specs.Modules.{inner_instrument, ins_module, link_instruction, segment_mux};
+ghost use Rattle.design_maker.specs.Modules.{select_bit, sib_module, wrap_module, wrap_ports};
 
 use crate::items::{Items, bound, bound_width, mux_row, sized};
 use crate::signals::{lowest, one, ranged, signal, the_width, whole_width};
@@ -179,7 +181,8 @@ fn link_instr(alloc: Global) -> Result<LinkInstr, OutOfMemory>
 /// The link, which selects the network by one instruction.
 #[tactic(auto, unfolding(crate::specs::Parts::HasAdded))]
 fn add_link(alloc: Global, items: &mut Items) -> Result<(), OutOfMemory>
-    ensures { OnOk result (HasAdded items.old items.new (item (codes "tap") (ALink LinkKind.Std2001 (codes "chip") (link_instruction ∷ [])) ∷ [])) }
+    ensures { OnOk result (HasAdded items.old items.new
+        (item (codes "tap") (ALink LinkKind.Std2001 (codes "chip") (link_instruction ∷ [])) ∷ [])) }
 {
     let instrs = one(alloc, link_instr(alloc)?)?;
     let Ok(entity) = SmallText::of(alloc, b"chip") else {

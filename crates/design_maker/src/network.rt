@@ -3,7 +3,8 @@ ghost use Rattle.std.specs.Prelude.{◌≡◌, ◌≤◌, ◌<◌, [], ◌∷◌
 ghost use Rattle.icl_lexer.specs.Views.{seen_bind, seen_design, seen_module, seen_sig};
 ghost use Rattle.design_maker.specs.Numbered.{numbered};
 ghost use Rattle.design_maker.specs.Parts.{HasAdded, bound, signal};
-ghost use Rattle.design_maker.specs.Network.{chain_items, inner_of, made_design, net_module, net_ports, outer_of, sib_item, sib_items, sib_name, wrap_item, wrap_name};
+ghost use Rattle.design_maker.specs.Network.{chain_items, inner_of, made_design, net_module, net_ports};
+ghost use Rattle.design_maker.specs.Network.{outer_of, sib_item, sib_items, sib_name, wrap_item, wrap_name};
 
 use crate::instrument::Instrument;
 use crate::items::{Items, bound, bound_width};
@@ -44,8 +45,8 @@ fn wrap_name(alloc: Global, i: u32) -> Result<SureSink, OutOfMemory>
     }
 }
 
-/// What SIB j of instrument i scans in from: the SIB next to it outwards, or the outermost one of the instrument before, or the
-/// module's port.
+/// What SIB j of instrument i scans in from: the SIB next to it outwards, or the outermost one of the
+/// instrument before, or the module's port.
 fn bound_outer(alloc: Global, i: u32, j: u32) -> Result<Bind, OutOfMemory>
     requires instrument { 1 ≤ i }
     requires sib { 1 ≤ j }

@@ -1,6 +1,7 @@
 // The procedure of a made design.
 ghost use Rattle.std.specs.Prelude.{◌≡◌, ◌*◌, ◌≤◌, ◌<◌, ◌++◌, length, map, OnOk, IfOk};
-ghost use Rattle.design_maker.specs.Procedure.{after_turn, drawn_turn, procedure_text, turn_text, turns_text, word_at, run, written};
+ghost use Rattle.design_maker.specs.Procedure.{after_turn, drawn_turn, procedure_text, turn_text, turns_text};
+ghost use Rattle.design_maker.specs.Procedure.{word_at, run, written};
 
 use crate::draws::draw;
 use crate::instrument::Instrument;
@@ -87,7 +88,8 @@ fn put_turns(
 ) -> Result<(), StoreFault>
     requires some { 1 ≤ length instruments.old.items }
     requires few { length instruments.old.items ≤ 64 }
-    ensures { OnOk result (pdl.new ≡ pdl.old ++ turns_text (2 * length instruments.old.items) instruments.old.items g.old) }
+    ensures { OnOk result
+        (pdl.new ≡ pdl.old ++ turns_text (2 * length instruments.old.items) instruments.old.items g.old) }
 {
     for i in 0..2 * instruments.len() {
         let turn = draw_turn(instruments, g);

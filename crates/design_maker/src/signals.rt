@@ -105,7 +105,8 @@ pub(crate) fn ranged(
     range: Option<Range>,
 ) -> Result<Sig, OutOfMemory>
     requires { 1 ≤ length path.now }
-    ensures { IfOk result (λ sig. seen_sig sig ≡ ranged (map (λ word. word.now) path.now) (option_map seen_range range)) }
+    ensures { IfOk result (λ sig. seen_sig sig
+        ≡ ranged (map (λ word. word.now) path.now) (option_map seen_range range)) }
 {
     Ok(Sig {
         at: NOWHERE,

@@ -25,8 +25,8 @@ pub const SIZE_LIMIT: u64 = 64;
 /// The texts of a made design.
 #[derive(Drop)]
 pub struct Made {
-    /// The network, below the module `chip` (IEEE 1687-2014, ICL). It is what [`put_design`](icl_printer::put_design) writes of the
-    /// design.
+    /// The network, below the module `chip` (IEEE 1687-2014, ICL). It is what
+    /// [`put_design`](icl_printer::put_design) writes of the design.
     pub icl: Text,
     /// The procedure `p` of the module `chip` (IEEE 1687-2014, PDL level 0).
     pub pdl: Text,
@@ -68,16 +68,17 @@ fn icl_text(alloc: Global, instruments: &List<Instrument>) -> Result<Text, OutOf
     }
 }
 
-/// Makes a design of `size` instruments, a procedure on it, its device and the tables of its instruments (IEEE 1687-2014, ICL and PDL
-/// level 0; IEEE 1149.1-2013). The numbers in it are drawn from the generator `Lcg64Xsh32` of `seed`: the same seed and size give the
-/// same texts.
+/// Makes a design of `size` instruments, a procedure on it, its device and the tables of its instruments
+/// (IEEE 1687-2014, ICL and PDL level 0; IEEE 1149.1-2013). The numbers in it are drawn from the generator
+/// `Lcg64Xsh32` of `seed`: the same seed and size give the same texts.
 ///
-/// Each instrument has 1 to 32 bits and stands after 1 to 4 SIBs. The procedure writes and reads one instrument in each of its
-/// `2 * size` turns.
+/// Each instrument has 1 to 32 bits and stands after 1 to 4 SIBs. The procedure writes and reads one
+/// instrument in each of its `2 * size` turns.
 ///
 /// # Errors
 ///
-/// `BadSize` exactly where `size` is 0 or more than 64, and `OutOfMemory` where there is no memory for the texts.
+/// `BadSize` exactly where `size` is 0 or more than 64, and `OutOfMemory` where there is no memory for the
+/// texts.
 pub fn make(alloc: Global, seed: u64, size: u64) -> Result<Made, MakeFault>
     ensures icl { IfOk result (λ made. made.icl.items ≡ made_icl seed size) }
     ensures pdl { IfOk result (λ made. made.pdl.items ≡ made_pdl seed size) }

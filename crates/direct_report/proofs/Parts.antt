@@ -11,7 +11,8 @@ pub steps_come_in_order : StepsComeInOrder
 steps_come_in_order net models d s ss =
     let ms = map machine_of models in
     let after = do_step count_log net ms d s in
-    append_assoc (step_lines net ms d s) (steps_lines net ms after ss) (end_text net models (do_all count_log net ms after ss))
+    append_assoc (step_lines net ms d s) (steps_lines net ms after ss)
+    (end_text net models (do_all count_log net ms after ss))
 
 pub the_end_comes_last : TheEndComesLast
 the_end_comes_last net models d = refl

@@ -16,12 +16,15 @@ use Rattle.direct_report.specs.Report.{end_text, in_order, report_from, step_lin
 
 -- the report from a step on is the lines of that step and the report of the steps after it
 abbrev pub StepsComeInOrder : Type 0
-StepsComeInOrder = (net : Net) (models : List SeenModel) (d : Direct Counts) (s : SeenStep) (ss : List SeenStep)
-    → report_from net models d (s ∷ ss) ≡ step_lines net (map machine_of models) d s ++ report_from net models (do_step count_log net (map machine_of models) d s) ss
+StepsComeInOrder =
+    (net : Net) (models : List SeenModel) (d : Direct Counts) (s : SeenStep) (ss : List SeenStep)
+    → report_from net models d (s ∷ ss) ≡ step_lines net (map machine_of models) d s
+    ++ report_from net models (do_step count_log net (map machine_of models) d s) ss
 
 -- with no step left it is its end
 abbrev pub TheEndComesLast : Type 0
-TheEndComesLast = (net : Net) (models : List SeenModel) (d : Direct Counts) → report_from net models d [] ≡ end_text net models d
+TheEndComesLast = (net : Net) (models : List SeenModel) (d : Direct Counts)
+    → report_from net models d [] ≡ end_text net models d
 
 -- no read is lost where reads are put in order, and none is told twice
 abbrev pub OrderKeepsReads : Type 0

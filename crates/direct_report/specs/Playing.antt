@@ -9,7 +9,8 @@ use Rattle.instruments.specs.Runners.{AreModels}
 use Rattle.net_graph.specs.Numbered.{HaveMarks}
 use Rattle.direct_report.specs.Marked.{AreBlank}
 
-pub record IsPlay (net : Net) (models : List Model) (values : SeenState) (marks : Marks) (reads differs : ℕ) : Type 0 where
+pub record IsPlay (net : Net) (models : List Model) (values : SeenState)
+    (marks : Marks) (reads differs : ℕ) : Type 0 where
   pub well_formed : IsNet net
   pub fit : AreModels net models
   pub same_net : values.net ≡ net

@@ -1,5 +1,6 @@
 -- What is printed of the direct meaning of a procedure's bit steps (IEEE 1687-2014, PDL level 0: iRead).
-use Rattle.std.specs.Prelude.{ℕ, zero, suc, Bool, not, cond, List, [], ◌∷◌, ◌++◌, map, filter, flat_map, length, Some}
+use Rattle.std.specs.Prelude.{ℕ, zero, suc, Bool, not, cond, List, [], ◌∷◌, ◌++◌, map, filter, flat_map}
+use Rattle.std.specs.Prelude.{length, Some}
 use Rattle.ij_bits.specs.BitLists.{same_bit}
 use Rattle.instruments.specs.After.{machine_of}
 use Rattle.instruments.specs.Machine.{Machine, count_log}
@@ -83,12 +84,14 @@ differing d = filter differs d.reads
 -- after the last step: what the registers and the instruments hold, and the totals
 abbrev pub end_text : Net → List SeenModel → Direct Counts → List ℕ
 end_text net models d =
-    registers_text net d.holds ++ (instruments_text net models d.insts ++ direct_text (length d.reads) (length (differing d)))
+    registers_text net d.holds
+    ++ (instruments_text net models d.insts ++ direct_text (length d.reads) (length (differing d)))
 
 -- the report of what is done from a state on
 abbrev pub report_from : Net → List SeenModel → Direct Counts → List SeenStep → List ℕ
 report_from net models d steps =
-    steps_lines net (map machine_of models) d steps ++ end_text net models (do_all count_log net (map machine_of models) d steps)
+    steps_lines net (map machine_of models) d steps
+    ++ end_text net models (do_all count_log net (map machine_of models) d steps)
 
 -- and from power-up
 abbrev pub direct_report : Net → List SeenModel → List SeenStep → List ℕ

@@ -1,4 +1,5 @@
--- What is printed of bit steps in a row, and what is kept of their meaning after them, whatever was done before.
+-- What is printed of bit steps in a row, and what is kept of their meaning after them, whatever was done
+-- before.
 use Rattle.std.specs.Prelude.{ℕ, List, Option, map}
 use Rattle.ij_io.specs.Bytes.{Adds, AddsPart}
 use Rattle.instruments.specs.After.{machine_of}

@@ -25,11 +25,11 @@ use pdl_meaning::DataState;
 use report::{Totals, put_totals};
 use std::alloc::Global;
 
-/// Runs a procedure's bit steps by their direct meaning, and prints the reads that differ while it goes on (IEEE 1687-2014,
-/// PDL level 0).
+/// Runs a procedure's bit steps by their direct meaning, and prints the reads that differ while it goes on
+/// (IEEE 1687-2014, PDL level 0).
 ///
-/// Contracts see the network, the instruments' models, what the register bits and the instruments hold, and how many bits
-/// were compared and how many of them differ. Only [`new`](DirectPlay::new) takes memory.
+/// Contracts see the network, the instruments' models, what the register bits and the instruments hold, and
+/// how many bits were compared and how many of them differ. Only [`new`](DirectPlay::new) takes memory.
 #[derive(Drop)]
 pub struct DirectPlay<'a> {
     net: &'a Net,
@@ -48,7 +48,14 @@ impl<'a> std::marker::Model for DirectPlay<'a> {
 
     ghost Value = { Kept };
 
-    ghost view = { λ p. record { net = p.net.now; models = map seen_model p.models.now.items; holds = p.values.holds; insts = p.values.insts; reads = p.reads; differs = p.differs } };
+    ghost view = { λ p. record {
+      net = p.net.now;
+      models = map seen_model p.models.now.items;
+      holds = p.values.holds;
+      insts = p.values.insts;
+      reads = p.reads;
+      differs = p.differs;
+    } };
 
     ghost invariant = { λ p. IsPlay p.net.now p.models.now.items p.values p.marks p.reads p.differs };
 }
@@ -64,7 +71,8 @@ impl<'a> DirectPlay<'a> {
         requires models { AreModels net.now models.now.items }
         ensures net { IfOk result (λ p. p.net ≡ net.now) }
         ensures models { IfOk result (λ p. p.models ≡ map seen_model models.now.items) }
-        ensures state { IfOk result (λ p. Keeps p (power_up count_log net.now (map machine_of (map seen_model models.now.items)))) }
+        ensures state { IfOk result
+            (λ p. Keeps p (power_up count_log net.now (map machine_of (map seen_model models.now.items)))) }
         ensures reads { IfOk result (λ p. p.reads ≡ 0) }
     {
         Ok(DirectPlay {
@@ -77,8 +85,9 @@ impl<'a> DirectPlay<'a> {
         })
     }
 
-    /// Does one step, and writes a line `differs iread R line L index I expected E read V` for each bit that it reads other
-    /// than expected: round by round, in a round by register and position. It takes no memory itself.
+    /// Does one step, and writes a line `differs iread R line L index I expected E read V` for each bit that
+    /// it reads other than expected: round by round, in a round by register and position. It takes no memory
+    /// itself.
     ///
     /// # Errors
     ///
@@ -88,10 +97,16 @@ impl<'a> DirectPlay<'a> {
         requires few { self.old.reads + 4096 * round_count (seen_step step.now) < 2 ^ 64 }
         ensures net { self.new.net ≡ self.old.net }
         ensures models { self.new.models ≡ self.old.models }
-        ensures whole { (d : Direct TheCounts) → Keeps self.old d → OnOk result (Adds (K.taken k.old) (K.taken k.new) (step_lines self.old.net (map machine_of self.old.models) d (seen_step step.now))) }
-        ensures state { (d : Direct TheCounts) → Keeps self.old d → OnOk result (Keeps self.new (do_step count_log self.old.net (map machine_of self.old.models) d (seen_step step.now))) }
-        ensures few { OnOk result (self.new.reads ≤ self.old.reads + 4096 * round_count (seen_step step.now)) }
-        ensures part { (d : Direct TheCounts) → Keeps self.old d → OnErr result (AddsPart (K.taken k.old) (K.taken k.new) (step_lines self.old.net (map machine_of self.old.models) d (seen_step step.now))) }
+        ensures whole { (d : Direct TheCounts) → Keeps self.old d
+            → OnOk result (Adds (K.taken k.old) (K.taken k.new)
+            (step_lines self.old.net (map machine_of self.old.models) d (seen_step step.now))) }
+        ensures state { (d : Direct TheCounts) → Keeps self.old d → OnOk result (Keeps self.new
+            (do_step count_log self.old.net (map machine_of self.old.models) d (seen_step step.now))) }
+        ensures few { OnOk result (self.new.reads
+            ≤ self.old.reads + 4096 * round_count (seen_step step.now)) }
+        ensures part { (d : Direct TheCounts) → Keeps self.old d
+            → OnErr result (AddsPart (K.taken k.old) (K.taken k.new)
+            (step_lines self.old.net (map machine_of self.old.models) d (seen_step step.now))) }
         ensures cause { HasCause (K.faults k.old) (K.faults k.new) result StoreFault.Failed }
     {
         match step {
@@ -113,10 +128,15 @@ impl<'a> DirectPlay<'a> {
         requires few { self.old.reads + 4096 * length rounds.now < 2 ^ 64 }
         ensures net { self.new.net ≡ self.old.net }
         ensures models { self.new.models ≡ self.old.models }
-        ensures whole { (d : Direct TheCounts) → Keeps self.old d → OnOk result (Adds (K.taken k.old) (K.taken k.new) (step_lines self.old.net (map machine_of self.old.models) d (Apply (map seen_group rounds.now)))) }
-        ensures state { (d : Direct TheCounts) → Keeps self.old d → OnOk result (Keeps self.new (do_step count_log self.old.net (map machine_of self.old.models) d (Apply (map seen_group rounds.now)))) }
+        ensures whole { (d : Direct TheCounts) → Keeps self.old d
+            → OnOk result (Adds (K.taken k.old) (K.taken k.new) (step_lines self.old.net
+            (map machine_of self.old.models) d (Apply (map seen_group rounds.now)))) }
+        ensures state { (d : Direct TheCounts) → Keeps self.old d → OnOk result (Keeps self.new (do_step
+            count_log self.old.net (map machine_of self.old.models) d (Apply (map seen_group rounds.now)))) }
         ensures few { OnOk result (self.new.reads ≤ self.old.reads + 4096 * length rounds.now) }
-        ensures part { (d : Direct TheCounts) → Keeps self.old d → OnErr result (AddsPart (K.taken k.old) (K.taken k.new) (step_lines self.old.net (map machine_of self.old.models) d (Apply (map seen_group rounds.now)))) }
+        ensures part { (d : Direct TheCounts) → Keeps self.old d
+            → OnErr result (AddsPart (K.taken k.old) (K.taken k.new) (step_lines self.old.net
+            (map machine_of self.old.models) d (Apply (map seen_group rounds.now)))) }
         ensures cause { HasCause (K.faults k.old) (K.faults k.new) result StoreFault.Failed }
     {
         let told = tell_rounds(self.net, &mut self.values, &mut self.marks, rounds, k)?;
@@ -125,16 +145,18 @@ impl<'a> DirectPlay<'a> {
         Ok(())
     }
 
-    /// Writes the end of the report: the line of each register and of each instrument, and `reads N differs D`. Answers how
-    /// many reads differ. It takes no memory itself.
+    /// Writes the end of the report: the line of each register and of each instrument, and
+    /// `reads N differs D`. Answers how many reads differ. It takes no memory itself.
     ///
     /// # Errors
     ///
     /// The sink's, which then took some first bytes of these lines.
     pub fn finish<K: Sink>(&self, k: &mut K) -> Result<u64, StoreFault>
-        ensures whole { (d : Direct TheCounts) → Keeps self.now d → OnOk result (Adds (K.taken k.old) (K.taken k.new) (end_text self.now.net self.now.models d)) }
+        ensures whole { (d : Direct TheCounts) → Keeps self.now d
+            → OnOk result (Adds (K.taken k.old) (K.taken k.new) (end_text self.now.net self.now.models d)) }
         ensures differs { IfOk result (λ n. n ≡ self.now.differs) }
-        ensures part { (d : Direct TheCounts) → Keeps self.now d → OnErr result (AddsPart (K.taken k.old) (K.taken k.new) (end_text self.now.net self.now.models d)) }
+        ensures part { (d : Direct TheCounts) → Keeps self.now d → OnErr result
+            (AddsPart (K.taken k.old) (K.taken k.new) (end_text self.now.net self.now.models d)) }
         ensures cause { HasCause (K.faults k.old) (K.faults k.new) result StoreFault.Failed }
     {
         put_values(self.net, self.models, &self.values, k)?;

@@ -56,8 +56,10 @@ fn put_marked<K: Sink>(
 ) -> Result<(), StoreFault>
     requires there { All (λ r. IsBitOf values.now.net r.bit) reads.now }
     requires within { mark ≤ length reads.now }
-    ensures whole { OnOk result (Adds (K.taken k.old) (K.taken k.new) (lines (found_all values.now (marked reads.now mark)))) }
-    ensures part { OnErr result (AddsPart (K.taken k.old) (K.taken k.new) (lines (found_all values.now (marked reads.now mark)))) }
+    ensures whole { OnOk result
+        (Adds (K.taken k.old) (K.taken k.new) (lines (found_all values.now (marked reads.now mark)))) }
+    ensures part { OnErr result
+        (AddsPart (K.taken k.old) (K.taken k.new) (lines (found_all values.now (marked reads.now mark)))) }
     ensures cause { HasCause (K.faults k.old) (K.faults k.new) result StoreFault.Failed }
 {
     if mark == 0 {
@@ -78,8 +80,10 @@ fn put_register_reads<K: Sink>(
 ) -> Result<(), StoreFault>
     requires there { All (λ r. IsBitOf values.now.net r.bit) reads.now }
     requires marks { AreMarked reads.now marks.now }
-    ensures whole { OnOk result (Adds (K.taken k.old) (K.taken k.new) (lines (reads_on (found_all values.now reads.now) (bits_from reg 0 width)))) }
-    ensures part { OnErr result (AddsPart (K.taken k.old) (K.taken k.new) (lines (reads_on (found_all values.now reads.now) (bits_from reg 0 width)))) }
+    ensures whole { OnOk result (Adds (K.taken k.old) (K.taken k.new)
+        (lines (reads_on (found_all values.now reads.now) (bits_from reg 0 width)))) }
+    ensures part { OnErr result (AddsPart (K.taken k.old) (K.taken k.new)
+        (lines (reads_on (found_all values.now reads.now) (bits_from reg 0 width)))) }
     ensures cause { HasCause (K.faults k.old) (K.faults k.new) result StoreFault.Failed }
 {
     for pos in 0..width {
@@ -99,8 +103,10 @@ pub(crate) fn put_reads<K: Sink>(
     requires well_formed { IsNet net.now }
     requires there { All (λ r. IsBitOf values.now.net r.bit) reads.now }
     requires marks { AreMarked reads.now marks.now }
-    ensures whole { OnOk result (Adds (K.taken k.old) (K.taken k.new) (lines (in_order net.now (found_all values.now reads.now)))) }
-    ensures part { OnErr result (AddsPart (K.taken k.old) (K.taken k.new) (lines (in_order net.now (found_all values.now reads.now)))) }
+    ensures whole { OnOk result
+        (Adds (K.taken k.old) (K.taken k.new) (lines (in_order net.now (found_all values.now reads.now)))) }
+    ensures part { OnErr result (AddsPart (K.taken k.old) (K.taken k.new)
+        (lines (in_order net.now (found_all values.now reads.now)))) }
     ensures cause { HasCause (K.faults k.old) (K.faults k.new) result StoreFault.Failed }
 {
     let count = register_count(net);

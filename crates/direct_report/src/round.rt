@@ -1,5 +1,6 @@
 // The rounds of an iApply: what they print, and what they do.
-ghost use Rattle.std.specs.Prelude.{◌≡◌, ◌<◌, ◌≤◌, ◌+◌, ◌*◌, ◌^◌, length, filter, map, All, IfOk, OnOk, OnErr};
+ghost use Rattle.std.specs.Prelude.{◌≡◌, ◌<◌, ◌≤◌, ◌+◌, ◌*◌, ◌^◌, length, filter, map, All, IfOk, OnOk};
+ghost use Rattle.std.specs.Prelude.{OnErr};
 ghost use Rattle.direct_report.specs.Going.{AreCounted, AreReads, IsAfterWrites, StandsFor};
 ghost use Rattle.net_graph.specs.Numbered.{HaveMarks};
 ghost use Rattle.direct_report.specs.Marked.{AreBlank};
@@ -43,9 +44,11 @@ fn put_round<K: Sink>(
     requires marks { HaveMarks net.now marks.old }
     ensures blank { AreBlank marks.new }
     ensures marks { HaveMarks net.now marks.new }
-    ensures whole { OnOk result (Adds (K.taken k.old) (K.taken k.new) (lines (in_order net.now (found_all values.now reads.now)))) }
+    ensures whole { OnOk result
+        (Adds (K.taken k.old) (K.taken k.new) (lines (in_order net.now (found_all values.now reads.now)))) }
     ensures count { IfOk result (λ n. n ≡ length (filter differs (found_all values.now reads.now))) }
-    ensures part { OnErr result (AddsPart (K.taken k.old) (K.taken k.new) (lines (in_order net.now (found_all values.now reads.now)))) }
+    ensures part { OnErr result (AddsPart (K.taken k.old) (K.taken k.new)
+        (lines (in_order net.now (found_all values.now reads.now)))) }
     ensures cause { HasCause (K.faults k.old) (K.faults k.new) result StoreFault.Failed }
 {
     let count = count_differing(values, reads);
@@ -74,11 +77,14 @@ fn put_group<K: Sink>(
     requires marks { HaveMarks net.now marks.old }
     ensures blank { AreBlank marks.new }
     ensures marks { HaveMarks net.now marks.new }
-    ensures whole { OnOk result (Adds (K.taken k.old) (K.taken k.new) (lines (in_order net.now (found_all values.now group.now.reads.items)))) }
-    ensures count { IfOk result (λ n. n ≡ length (filter differs (found_all values.now group.now.reads.items))) }
+    ensures whole { OnOk result (Adds (K.taken k.old) (K.taken k.new)
+        (lines (in_order net.now (found_all values.now group.now.reads.items)))) }
+    ensures count { IfOk result
+        (λ n. n ≡ length (filter differs (found_all values.now group.now.reads.items))) }
     ensures few { length group.now.reads.items ≤ 4096 }
     ensures less { IfOk result (λ n. n ≤ length group.now.reads.items) }
-    ensures part { OnErr result (AddsPart (K.taken k.old) (K.taken k.new) (lines (in_order net.now (found_all values.now group.now.reads.items)))) }
+    ensures part { OnErr result (AddsPart (K.taken k.old) (K.taken k.new)
+        (lines (in_order net.now (found_all values.now group.now.reads.items)))) }
     ensures cause { HasCause (K.faults k.old) (K.faults k.new) result StoreFault.Failed }
 {
     put_round(net, values, group.reads.as_slice(), marks, k)
@@ -101,13 +107,16 @@ fn tell_round<K: Sink>(
     ensures models { values.new.models ≡ values.old.models }
     ensures blank { AreBlank marks.new }
     ensures marks { HaveMarks net.now marks.new }
-    ensures whole { OnOk result (Adds (K.taken k.old) (K.taken k.new) (lines (in_order net.now (found_all values.old group.now.reads.items)))) }
+    ensures whole { OnOk result (Adds (K.taken k.old) (K.taken k.new)
+        (lines (in_order net.now (found_all values.old group.now.reads.items)))) }
     ensures state { OnOk result (IsAfterWrites values.old group.now.writes.items values.new) }
     ensures reads { IfOk result (λ told. told.reads ≡ length group.now.reads.items) }
-    ensures differs { IfOk result (λ told. told.differs ≡ length (filter differs (found_all values.old group.now.reads.items))) }
+    ensures differs { IfOk result
+        (λ told. told.differs ≡ length (filter differs (found_all values.old group.now.reads.items))) }
     ensures few { IfOk result (λ told. told.reads ≤ 4096) }
     ensures less { IfOk result (λ told. told.differs ≤ told.reads) }
-    ensures part { OnErr result (AddsPart (K.taken k.old) (K.taken k.new) (lines (in_order net.now (found_all values.old group.now.reads.items)))) }
+    ensures part { OnErr result (AddsPart (K.taken k.old) (K.taken k.new)
+        (lines (in_order net.now (found_all values.old group.now.reads.items)))) }
     ensures cause { HasCause (K.faults k.old) (K.faults k.new) result StoreFault.Failed }
 {
     let differs = put_group(net, values, group, marks, k)?;
@@ -136,10 +145,17 @@ pub(crate) fn tell_rounds<K: Sink>(
     ensures models { values.new.models ≡ values.old.models }
     ensures blank { AreBlank marks.new }
     ensures marks { HaveMarks net.now marks.new }
-    ensures whole { (d : Direct TheCounts) → StandsFor values.old d → OnOk result (Adds (K.taken k.old) (K.taken k.new) (rounds_lines net.now (machines_of values.old.models) d (map seen_group rounds.now))) }
-    ensures part { (d : Direct TheCounts) → StandsFor values.old d → OnErr result (AddsPart (K.taken k.old) (K.taken k.new) (rounds_lines net.now (machines_of values.old.models) d (map seen_group rounds.now))) }
-    ensures state { (d : Direct TheCounts) → StandsFor values.old d → OnOk result (StandsFor values.new (do_rounds count_log net.now (machines_of values.old.models) d (map seen_group rounds.now))) }
-    ensures counts { (d : Direct TheCounts) → StandsFor values.old d → IfOk result (λ told. AreCounted told.reads told.differs d (do_rounds count_log net.now (machines_of values.old.models) d (map seen_group rounds.now))) }
+    ensures whole { (d : Direct TheCounts) → StandsFor values.old d
+        → OnOk result (Adds (K.taken k.old) (K.taken k.new)
+        (rounds_lines net.now (machines_of values.old.models) d (map seen_group rounds.now))) }
+    ensures part { (d : Direct TheCounts) → StandsFor values.old d
+        → OnErr result (AddsPart (K.taken k.old) (K.taken k.new)
+        (rounds_lines net.now (machines_of values.old.models) d (map seen_group rounds.now))) }
+    ensures state { (d : Direct TheCounts) → StandsFor values.old d → OnOk result (StandsFor values.new
+        (do_rounds count_log net.now (machines_of values.old.models) d (map seen_group rounds.now))) }
+    ensures counts { (d : Direct TheCounts) → StandsFor values.old d
+        → IfOk result (λ told. AreCounted told.reads told.differs d
+        (do_rounds count_log net.now (machines_of values.old.models) d (map seen_group rounds.now))) }
     ensures few { IfOk result (λ told. told.reads ≤ 4096 * length rounds.now) }
     ensures less { IfOk result (λ told. told.differs ≤ told.reads) }
     ensures cause { HasCause (K.faults k.old) (K.faults k.new) result StoreFault.Failed }

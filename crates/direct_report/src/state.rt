@@ -53,8 +53,10 @@ fn put_one<K: Sink>(
     requires model { IsModel (seen_model model.now) }
     requires there { inst < length net.now.insts.items }
     requires running { inst < length values.now.insts }
-    ensures whole { OnOk result (Adds (K.taken k.old) (K.taken k.new) (inst_text net.now values.now.insts inst (seen_model model.now))) }
-    ensures part { OnErr result (AddsPart (K.taken k.old) (K.taken k.new) (inst_text net.now values.now.insts inst (seen_model model.now))) }
+    ensures whole { OnOk result (Adds (K.taken k.old) (K.taken k.new)
+        (inst_text net.now values.now.insts inst (seen_model model.now))) }
+    ensures part { OnErr result (AddsPart (K.taken k.old) (K.taken k.new)
+        (inst_text net.now values.now.insts inst (seen_model model.now))) }
     ensures cause { HasCause (K.faults k.old) (K.faults k.new) result StoreFault.Failed }
 {
     let words = words_of(values, inst);
@@ -72,8 +74,10 @@ fn put_instruments<K: Sink>(
     requires well_formed { IsNet net.now }
     requires models { AreModels net.now models.now.items }
     requires values { values.now.models ≡ models.now.items }
-    ensures whole { OnOk result (Adds (K.taken k.old) (K.taken k.new) (instruments_text net.now (map seen_model models.now.items) values.now.insts)) }
-    ensures part { OnErr result (AddsPart (K.taken k.old) (K.taken k.new) (instruments_text net.now (map seen_model models.now.items) values.now.insts)) }
+    ensures whole { OnOk result (Adds (K.taken k.old) (K.taken k.new)
+        (instruments_text net.now (map seen_model models.now.items) values.now.insts)) }
+    ensures part { OnErr result (AddsPart (K.taken k.old) (K.taken k.new)
+        (instruments_text net.now (map seen_model models.now.items) values.now.insts)) }
     ensures cause { HasCause (K.faults k.old) (K.faults k.new) result StoreFault.Failed }
 {
     let _running = values.instruments();
@@ -94,8 +98,10 @@ pub(crate) fn put_values<K: Sink>(
     requires models { AreModels net.now models.now.items }
     requires net { values.now.net ≡ net.now }
     requires values { values.now.models ≡ models.now.items }
-    ensures whole { OnOk result (Adds (K.taken k.old) (K.taken k.new) (registers_text net.now values.now.holds ++ instruments_text net.now (map seen_model models.now.items) values.now.insts)) }
-    ensures part { OnErr result (AddsPart (K.taken k.old) (K.taken k.new) (registers_text net.now values.now.holds ++ instruments_text net.now (map seen_model models.now.items) values.now.insts)) }
+    ensures whole { OnOk result (Adds (K.taken k.old) (K.taken k.new) (registers_text net.now values.now.holds
+        ++ instruments_text net.now (map seen_model models.now.items) values.now.insts)) }
+    ensures part { OnErr result (AddsPart (K.taken k.old) (K.taken k.new) (registers_text net.now
+        values.now.holds ++ instruments_text net.now (map seen_model models.now.items) values.now.insts)) }
     ensures cause { HasCause (K.faults k.old) (K.faults k.new) result StoreFault.Failed }
 {
     put_registers(net, values.holds(), k)?;

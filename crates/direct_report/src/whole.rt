@@ -18,7 +18,8 @@ use merge_order::{BitSteps, next_step};
 use net_graph::Net;
 use std::alloc::Global;
 
-/// Does the bit steps that are left of a procedure, and writes the reads that differ. After a refusal some first bytes are written.
+/// Does the bit steps that are left of a procedure, and writes the reads that differ. After a refusal some
+/// first bytes are written.
 fn put_steps<'a, 'b, K: Sink>(
     play: &mut DirectPlay<'a>,
     steps: &mut BitSteps<'b>,
@@ -39,9 +40,10 @@ fn put_steps<'a, 'b, K: Sink>(
     Ok(())
 }
 
-/// Runs the bit steps of a procedure from power-up by their direct meaning (IEEE 1687-2014, PDL level 0), and writes the report: a
-/// line for each read that differs, then what the registers and the instruments hold, then the totals. Answers how many reads differ.
-/// `models` has a model for each instrument, in the network's order. No bit step is kept.
+/// Runs the bit steps of a procedure from power-up by their direct meaning (IEEE 1687-2014, PDL level 0), and
+/// writes the report: a line for each read that differs, then what the registers and the instruments hold,
+/// then the totals. Answers how many reads differ. `models` has a model for each instrument, in the network's
+/// order. No bit step is kept.
 ///
 /// # Errors
 ///
@@ -61,9 +63,12 @@ pub fn put_direct<'b, K: Sink>(
     requires no_fault { steps.old.fault ≡ None }
     requires steps { All (IsStep net.now) steps.old.steps }
     requires few { rounds_in steps.old.steps ≤ 4096 }
-    ensures whole { OnOk result (Adds (K.taken k.old) (K.taken k.new) (direct_report net.now (map seen_model models.now.items) steps.old.steps)) }
-    ensures differs { IfOk result (λ n. n ≡ length (direct_differs net.now (map seen_model models.now.items) steps.old.steps)) }
-    ensures part { OnErr result (AddsPart (K.taken k.old) (K.taken k.new) (direct_report net.now (map seen_model models.now.items) steps.old.steps)) }
+    ensures whole { OnOk result (Adds (K.taken k.old) (K.taken k.new)
+        (direct_report net.now (map seen_model models.now.items) steps.old.steps)) }
+    ensures differs { IfOk result
+        (λ n. n ≡ length (direct_differs net.now (map seen_model models.now.items) steps.old.steps)) }
+    ensures part { OnErr result (AddsPart (K.taken k.old) (K.taken k.new)
+        (direct_report net.now (map seen_model models.now.items) steps.old.steps)) }
     ensures cause { HasCause (K.faults k.old) (K.faults k.new) result StoreFault.Failed }
 {
     let mut play = DirectPlay::new(alloc, net, models)?;

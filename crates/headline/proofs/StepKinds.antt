@@ -19,5 +19,6 @@ cycles (Apply gs) = 0
 cycles (Run n) = n
 cycles Reset = 0
 
-pub head_same : (x y : PlannedStep) (xs ys : List PlannedStep) → map seen_of (x ∷ xs) ≡ map seen_of (y ∷ ys) → seen_of x ≡ seen_of y
+pub head_same : (x y : PlannedStep) (xs ys : List PlannedStep)
+    → map seen_of (x ∷ xs) ≡ map seen_of (y ∷ ys) → seen_of x ≡ seen_of y
 head_same x y xs ys e = ap (λ ss. get_or ss 0 (seen_of x)) e

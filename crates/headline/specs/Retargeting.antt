@@ -24,7 +24,8 @@ use Rattle.headline.specs.Headline.{PlaysOn, IsRetargeting, after_preface, first
 use Rattle.headline.specs.Planned.{AnyMachines, IsPlanned}
 use Rattle.headline.specs.Sizes.{IsShort}
 use Rattle.svf_reader.specs.Meaning.{svf}
-use Rattle.headline.specs.Script.{Round, ScannedStep, Applied, Ran, WasReset, commands_of, script_commands, script_text}
+use Rattle.headline.specs.Script.{Round, ScannedStep, Applied, Ran, WasReset, commands_of, script_commands}
+use Rattle.headline.specs.Script.{script_text}
 use Rattle.headline.specs.Scans.{scans_of, holds_after}
 
 -- one round of an iApply with the plans of its scans
@@ -47,7 +48,8 @@ seen_of Resets = Reset
 -- the rounds with their scans, where the update stages are these before them
 abbrev pub rounds_of : Net → Holds → List PlannedGroup → List Round
 rounds_of net holds [] = []
-rounds_of net holds (p ∷ ps) = record { group = p.group; scans = scans_of net holds p.plans } ∷ rounds_of net (holds_after holds p.plans) ps
+rounds_of net holds (p ∷ ps) = record { group = p.group; scans = scans_of net holds p.plans }
+    ∷ rounds_of net (holds_after holds p.plans) ps
 
 abbrev pub holds_after_rounds : Holds → List PlannedGroup → Holds
 holds_after_rounds holds [] = holds
@@ -77,12 +79,14 @@ pub record IsPlannedGroup (net : Net) (form : Items) (holds : Holds) (p : Planne
 
 abbrev pub GroupsArePlanned : Net → Items → Holds → List PlannedGroup → Type 0
 GroupsArePlanned net form holds [] = Unit {0}
-GroupsArePlanned net form holds (p ∷ ps) = IsPlannedGroup net form holds p × GroupsArePlanned net form (holds_after holds p.plans) ps
+GroupsArePlanned net form holds (p ∷ ps) = IsPlannedGroup net form holds p
+    × GroupsArePlanned net form (holds_after holds p.plans) ps
 
 abbrev pub StepsArePlanned : Net → Items → Holds → List PlannedStep → Type 0
 StepsArePlanned net form holds [] = Unit {0}
 StepsArePlanned net form holds (Applies rounds ∷ xs) =
-    (1 ≤ length rounds) × GroupsArePlanned net form holds rounds × StepsArePlanned net form (holds_after_rounds holds rounds) xs
+    (1 ≤ length rounds) × GroupsArePlanned net form holds rounds
+    × StepsArePlanned net form (holds_after_rounds holds rounds) xs
 StepsArePlanned net form holds (Runs n ∷ xs) = (n ≤ 999999999) × StepsArePlanned net form holds xs
 StepsArePlanned net form holds (Resets ∷ xs) = StepsArePlanned net form (reset_holds net holds) xs
 
@@ -92,9 +96,9 @@ pub record IsRetargetable (net : Net) (form : Items) : Type 0 where
   pub describes : Describes net form
   pub lawful : IsLawful net form
 
--- The scans of a round, where the update stages are these before it: they are those of plans of its group, of which each but
--- the last opens what the group needs, and the last one writes and reads. There are as few as can be, and at most as many as
--- the group is deep, and one more.
+-- The scans of a round, where the update stages are these before it: they are those of plans of its group, of
+-- which each but the last opens what the group needs, and the last one writes and reads. There are as few as
+-- can be, and at most as many as the group is deep, and one more.
 pub record IsOpened (net : Net) (form : Items) (holds : Holds) (r : Round) : Type 0 where
   pub plans : List SeenGroup
   pub planned : ArePlans net form r.group holds plans
@@ -107,7 +111,8 @@ module _ {L : Type 0} (chip : Chip L) (form : Items) where
   abbrev pub RoundsAreLeast : ℕ → State L → List Round → Type 0
   RoundsAreLeast scans s [] = Unit {0}
   RoundsAreLeast scans s (r ∷ rs) =
-      IsOpened chip.net form s.holds r × RoundsAreLeast (scans + length r.scans) (after_round chip scans s r) rs
+      IsOpened chip.net form s.holds r
+      × RoundsAreLeast (scans + length r.scans) (after_round chip scans s r) rs
 
   abbrev pub StepIsLeast : ℕ → State L → ScannedStep → Type 0
   StepIsLeast scans s (Applied rounds) = RoundsAreLeast scans s rounds
@@ -123,14 +128,20 @@ module _ {L : Type 0} (chip : Chip L) (form : Items) where
 -- steps with plans give a planned script
 abbrev pub PlansAreScripts : Type 0
 PlansAreScripts =
-    (net : Net) (form : Items) (xs : List PlannedStep) → IsRetargetable net form → StepsArePlanned net form (start_holds net) xs → IsPlanned net (start_holds net) (script_of net (start_holds net) xs)
+    (net : Net) (form : Items) (xs : List PlannedStep) → IsRetargetable net form
+    → StepsArePlanned net form (start_holds net) xs
+    → IsPlanned net (start_holds net) (script_of net (start_holds net) xs)
 
--- played from power-up on any fitting bench, the script does what its steps mean, with as few scans in each round as can be
+-- played from power-up on any fitting bench, the script does what its steps mean, with as few scans in each
+-- round as can be
 abbrev pub PlansPlay : Type 0
 PlansPlay =
-    (net : Net) (form : Items) (device : Device) (machines : List Machine) (xs : List PlannedStep) → IsRetargetable net form → IsDevice device → StepsArePlanned net form (start_holds net) xs
+    (net : Net) (form : Items) (device : Device) (machines : List Machine) (xs : List PlannedStep)
+    → IsRetargetable net form → IsDevice device → StepsArePlanned net form (start_holds net) xs
     → PlaysOn net device machines (script_of net (start_holds net) xs)
-    × AreLeast (fault_free whole_log net device machines) form (first_scans (fault_free whole_log net device machines)) (after_preface (fault_free whole_log net device machines)) (script_of net (start_holds net) xs)
+    × AreLeast (fault_free whole_log net device machines) form
+    (first_scans (fault_free whole_log net device machines))
+    (after_preface (fault_free whole_log net device machines)) (script_of net (start_holds net) xs)
 
 -- all rounds, and the cycles of all runs
 abbrev pub groups_in : List PlannedStep → List PlannedGroup
@@ -151,10 +162,12 @@ pub record IsWithinLimits (xs : List PlannedStep) : Type 0 where
   pub few_rounds : length (groups_in xs) ≤ 4096
   pub few_cycles : cycles_of xs ≤ 4000000
 
--- On a network with its lawful form, the bytes are the text of the script of plans for these bit steps, and a reader of SVF finds
--- the script's commands in them: these, played clock by clock from power-up, do the bit steps, whatever the instruments are, and
--- each round's scans are the opening of its group and then its one scan, as few as can be.
-pub record IsRetargeted (net : Net) (form : Items) (device : Device) (steps : List SeenStep) (bytes : List ℕ) : Type 0 where
+-- On a network with its lawful form, the bytes are the text of the script of plans for these bit steps, and a
+-- reader of SVF finds the script's commands in them: these, played clock by clock from power-up, do the bit
+-- steps, whatever the instruments are, and each round's scans are the opening of its group and then its one
+-- scan, as few as can be.
+pub record IsRetargeted (net : Net) (form : Items) (device : Device)
+    (steps : List SeenStep) (bytes : List ℕ) : Type 0 where
   pub network : IsRetargetable net form
   pub plans : List PlannedStep
   pub planned : StepsArePlanned net form (start_holds net) plans
@@ -162,22 +175,28 @@ pub record IsRetargeted (net : Net) (form : Items) (device : Device) (steps : Li
   pub read : svf bytes ≡ Ok (script_commands device (script_of net (start_holds net) plans))
   pub short : IsShort device (script_of net (start_holds net) plans)
   pub few_bytes : length bytes < 90000000
-  pub least : (machines : List Machine) → AreLeast (fault_free whole_log net device machines) form (first_scans (fault_free whole_log net device machines)) (after_preface (fault_free whole_log net device machines)) (script_of net (start_holds net) plans)
+  pub least : (machines : List Machine) → AreLeast (fault_free whole_log net device machines) form
+      (first_scans (fault_free whole_log net device machines))
+      (after_preface (fault_free whole_log net device machines)) (script_of net (start_holds net) plans)
 
 -- so is the text of planned steps within the limits
 abbrev pub PlansAreRight : Type 0
 PlansAreRight =
-    (net : Net) (form : Items) (device : Device) (xs : List PlannedStep) → IsRetargetable net form → IsDevice device → StepsArePlanned net form (start_holds net) xs → IsWithinLimits xs
+    (net : Net) (form : Items) (device : Device) (xs : List PlannedStep) → IsRetargetable net form
+    → IsDevice device → StepsArePlanned net form (start_holds net) xs → IsWithinLimits xs
     → IsRetargeted net form device (map seen_of xs) (script_text device (script_of net (start_holds net) xs))
 
--- bit steps have one script, whatever plans were found: so the text is a function of the network and the steps
+-- bit steps have one script, whatever plans were found: so the text is a function of the network and the
+-- steps
 abbrev pub ScriptsAreOne : Type 0
 ScriptsAreOne =
-    (net : Net) (form : Items) (holds : Holds) (xs ys : List PlannedStep) → StepsArePlanned net form holds xs → StepsArePlanned net form holds ys → map seen_of xs ≡ map seen_of ys
+    (net : Net) (form : Items) (holds : Holds) (xs ys : List PlannedStep) → StepsArePlanned net form holds xs
+    → StepsArePlanned net form holds ys → map seen_of xs ≡ map seen_of ys
     → script_of net holds xs ≡ script_of net holds ys
 
 -- so network, device and bit steps have one text that is right
 abbrev pub TextsAreOne : Type 0
 TextsAreOne =
-    (net : Net) (form : Items) (device : Device) (steps : List SeenStep) (a b : List ℕ) → IsRetargeted net form device steps a → IsRetargeted net form device steps b
+    (net : Net) (form : Items) (device : Device) (steps : List SeenStep) (a b : List ℕ)
+    → IsRetargeted net form device steps a → IsRetargeted net form device steps b
     → a ≡ b

@@ -1,5 +1,7 @@
 -- Numbers without open bits, from the highest bit down.
-use Rattle.std.proofs.Common.{◌≡◌, ◌+◌, ◌-◌, ◌*◌, ◌^◌, ◌<◌, ◌≤◌, ℕ, zero, suc, Bool, true, false, cond, nat_lt, ◌&&◌, List, [], ◌∷◌, length, map, get_or, drop, Option, Some, None, is_some, Ok, Err, refl, sym, ap, ◌∙◌, arith}
+use Rattle.std.proofs.Common.{◌≡◌, ◌+◌, ◌-◌, ◌*◌, ◌^◌, ◌<◌, ◌≤◌, ℕ, zero, suc, Bool, true, false, cond}
+use Rattle.std.proofs.Common.{nat_lt, ◌&&◌, List, [], ◌∷◌, length, map, get_or, drop, Option, Some, None}
+use Rattle.std.proofs.Common.{is_some, Ok, Err, refl, sym, ap, ◌∙◌, arith}
 use Rattle.std.specs.List.{list_all}
 use Rattle.std.specs.Option.{unwrap_or}
 use Rattle.std.proofs.lemmas.Bool.{lt-ltb, le-ltb}
@@ -26,18 +28,21 @@ higher (b ∷ bits) (suc k) = let rest = higher bits k in by_bit (unwrap_or b fa
     by_bit false h = omega (arith, h)
 
 -- one bit lower
-pub one_lower : (bits : List (Option Bool)) (k : ℕ) → k < length bits → worth (drop k bits) ≡ cond (unwrap_or (get_or bits k (Some false)) false) 1 0 + 2 * worth (drop (suc k) bits)
+pub one_lower : (bits : List (Option Bool)) (k : ℕ) → k < length bits → worth (drop k bits)
+    ≡ cond (unwrap_or (get_or bits k (Some false)) false) 1 0 + 2 * worth (drop (suc k) bits)
 one_lower [] k lt = absurd (omega (arith, lt))
 one_lower (b ∷ bits) zero lt = refl
 one_lower (b ∷ bits) (suc k) lt = one_lower bits k (omega (arith, lt))
 
-pub one_closed : (bits : List (Option Bool)) (k : ℕ) → k < length bits → are_closed (drop k bits) ≡ (is_some (get_or bits k (Some false)) && are_closed (drop (suc k) bits))
+pub one_closed : (bits : List (Option Bool)) (k : ℕ) → k < length bits
+    → are_closed (drop k bits) ≡ (is_some (get_or bits k (Some false)) && are_closed (drop (suc k) bits))
 one_closed [] k lt = absurd (omega (arith, lt))
 one_closed (b ∷ bits) zero lt = refl
 one_closed (b ∷ bits) (suc k) lt = one_closed bits k (omega (arith, lt))
 
 -- an open bit
-pub open_at : (bits : List (Option Bool)) (k : ℕ) → get_or bits k (Some false) ≡ None → are_closed bits ≡ false
+pub open_at : (bits : List (Option Bool)) (k : ℕ)
+    → get_or bits k (Some false) ≡ None → are_closed bits ≡ false
 open_at [] k e = absurd cc
 open_at (b ∷ bits) zero e = rw e refl
 open_at (b ∷ bits) (suc k) e = let rest = open_at bits k e in rw rest (none (is_some b))
@@ -48,21 +53,25 @@ open_at (b ∷ bits) (suc k) e = let rest = open_at bits k e in rw rest (none (i
 
 -- ---- answers
 
-pub closed_open : (at : Place) (bits : List (Option Bool)) → are_closed bits ≡ false → closed_number at bits ≡ Err (BadNumber at)
+pub closed_open : (at : Place) (bits : List (Option Bool)) → are_closed bits ≡ false
+    → closed_number at bits ≡ Err (BadNumber at)
 unfolding closed_number
 closed_open at bits e = rw e refl
 
-pub closed_big : (at : Place) (bits : List (Option Bool)) → 2 ^ 32 ≤ worth bits → closed_number at bits ≡ Err (BadNumber at)
+pub closed_big : (at : Place) (bits : List (Option Bool)) → 2 ^ 32 ≤ worth bits
+    → closed_number at bits ≡ Err (BadNumber at)
 unfolding closed_number
 closed_big at bits le =
     let big : nat_lt (worth bits) (2 ^ 32) ≡ false = le-ltb (worth bits) (2 ^ 32) le in
     rw big (either (are_closed bits))
   where
-    either : (c : Bool) → cond {A = Rattle.icl_declarations.specs.Faults.Answer ℕ} c (Err (BadNumber at)) (Err (BadNumber at)) ≡ Err (BadNumber at)
+    either : (c : Bool) → cond {A = Rattle.icl_declarations.specs.Faults.Answer ℕ} c (Err (BadNumber at))
+        (Err (BadNumber at)) ≡ Err (BadNumber at)
     either true = refl
     either false = refl
 
-pub closed_small : (at : Place) (bits : List (Option Bool)) (n : ℕ) → are_closed bits ≡ true → n ≡ worth bits → n < 2 ^ 32 → closed_number at bits ≡ Ok n
+pub closed_small : (at : Place) (bits : List (Option Bool)) (n : ℕ) → are_closed bits ≡ true → n ≡ worth bits
+    → n < 2 ^ 32 → closed_number at bits ≡ Ok n
 unfolding closed_number
 closed_small at bits n e f lt =
     let small : nat_lt (worth bits) (2 ^ 32) ≡ true = rw (sym f) (lt-ltb n (2 ^ 32) lt) in
@@ -71,11 +80,13 @@ closed_small at bits n e f lt =
 -- ---- rounds
 
 -- an open bit is met
-pub met_open : (at : Place) (bits : List (Option Bool)) (k len : ℕ) (bit : Option Bool) → bit ≡ get_or bits (len - 1 - k) (Some false) → bit ≡ None → closed_number at bits ≡ Err (BadNumber at)
+pub met_open : (at : Place) (bits : List (Option Bool)) (k len : ℕ) (bit : Option Bool)
+    → bit ≡ get_or bits (len - 1 - k) (Some false) → bit ≡ None → closed_number at bits ≡ Err (BadNumber at)
 met_open at bits k len bit e f = closed_open at bits (open_at bits (len - 1 - k) (sym e ∙ f))
 
 -- what is there is too big already
-pub met_big : (at : Place) (bits : List (Option Bool)) (k len n : ℕ) → length bits ≡ len → k < len → n ≡ worth (drop (len - k) bits) → 2147483648 ≤ n → closed_number at bits ≡ Err (BadNumber at)
+pub met_big : (at : Place) (bits : List (Option Bool)) (k len n : ℕ) → length bits ≡ len → k < len
+    → n ≡ worth (drop (len - k) bits) → 2147483648 ≤ n → closed_number at bits ≡ Err (BadNumber at)
 met_big at bits k len n long lt e le =
     let i = len - 1 - k in
     let next : suc i ≡ len - k = omega (arith, lt) in
@@ -85,21 +96,28 @@ met_big at bits k len n long lt e le =
     closed_big at bits (omega (arith, here, up, all, le))
 
 -- one bit more
-pub round_worth : (bits : List (Option Bool)) (k len n : ℕ) (bit : Bool) → length bits ≡ len → k < len → n ≡ worth (drop (len - k) bits) → Some bit ≡ get_or bits (len - 1 - k) (Some false) → 2 * n + cond bit 1 0 ≡ worth (drop (len - (k + 1)) bits)
+pub round_worth : (bits : List (Option Bool)) (k len n : ℕ) (bit : Bool) → length bits ≡ len → k < len
+    → n ≡ worth (drop (len - k) bits) → Some bit ≡ get_or bits (len - 1 - k) (Some false)
+    → 2 * n + cond bit 1 0 ≡ worth (drop (len - (k + 1)) bits)
 round_worth bits k len n bit long lt e f =
     let i = len - 1 - k in
     let next : suc i ≡ len - k = omega (arith, lt) in
     let same : len - (k + 1) ≡ i = omega arith in
-    let here : worth (drop i bits) ≡ cond bit 1 0 + 2 * worth (drop (suc i) bits) = one_lower bits i (omega (arith, lt, long)) ∙ ap (λ (o : Option Bool). cond (unwrap_or o false) 1 0 + 2 * worth (drop (suc i) bits)) (sym f) in
+    let here : worth (drop i bits) ≡ cond bit 1 0 + 2 * worth (drop (suc i) bits) =
+    one_lower bits i (omega (arith, lt, long))
+    ∙ ap (λ (o : Option Bool). cond (unwrap_or o false) 1 0 + 2 * worth (drop (suc i) bits)) (sym f) in
     let up : n ≡ worth (drop (suc i) bits) = e ∙ ap (λ j. worth (drop j bits)) (sym next) in
     rw same (omega (arith, here, up))
 
-pub round_closed : (bits : List (Option Bool)) (k len : ℕ) (bit : Bool) → length bits ≡ len → k < len → are_closed (drop (len - k) bits) ≡ true → Some bit ≡ get_or bits (len - 1 - k) (Some false) → are_closed (drop (len - (k + 1)) bits) ≡ true
+pub round_closed : (bits : List (Option Bool)) (k len : ℕ) (bit : Bool) → length bits ≡ len → k < len
+    → are_closed (drop (len - k) bits) ≡ true → Some bit ≡ get_or bits (len - 1 - k) (Some false)
+    → are_closed (drop (len - (k + 1)) bits) ≡ true
 round_closed bits k len bit long lt e f =
     let i = len - 1 - k in
     let next : suc i ≡ len - k = omega (arith, lt) in
     let same : len - (k + 1) ≡ i = omega arith in
-    rw same (one_closed bits i (omega (arith, lt, long)) ∙ ap (λ (o : Option Bool). is_some o && are_closed (drop (suc i) bits)) (sym f) ∙ ap (λ j. are_closed (drop j bits)) next ∙ e)
+    rw same (one_closed bits i (omega (arith, lt, long)) ∙ ap (λ (o : Option Bool). is_some o && are_closed
+    (drop (suc i) bits)) (sym f) ∙ ap (λ j. are_closed (drop j bits)) next ∙ e)
 
 -- ---- first and last
 
@@ -114,7 +132,9 @@ pub at_start : (bits : List (Option Bool)) (len : ℕ) → length bits ≡ len �
 at_start bits len e = let z : len - 0 ≡ len = omega arith in rw z (drop_all bits len e)
 
 -- all is read
-pub all_read : (at : Place) (bits : List (Option Bool)) (k len n : ℕ) → len ≤ k → n < 2 ^ 32 → are_closed (drop (len - k) bits) ≡ true → n ≡ worth (drop (len - k) bits) → closed_number at bits ≡ Ok n
+pub all_read : (at : Place) (bits : List (Option Bool)) (k len n : ℕ) → len ≤ k → n < 2 ^ 32
+    → are_closed (drop (len - k) bits) ≡ true → n ≡ worth (drop (len - k) bits) → closed_number at bits ≡ Ok n
 all_read at bits k len n le lt closed value =
     let z : len - k ≡ 0 = omega (arith, le) in
-    closed_small at bits n (ap (λ j. are_closed (drop j bits)) (sym z) ∙ closed) (value ∙ ap (λ j. worth (drop j bits)) z) lt
+    closed_small at bits n (ap (λ j. are_closed (drop j bits)) (sym z) ∙ closed)
+    (value ∙ ap (λ j. worth (drop j bits)) z) lt

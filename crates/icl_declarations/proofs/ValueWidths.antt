@@ -1,5 +1,6 @@
 -- A value has the width that is wanted.
-use Rattle.std.proofs.Common.{◌≡◌, ℕ, Bool, true, false, cond, nat_lt, List, [], ◌∷◌, length, get_or, Some, Ok, Err, sym, ap, ◌∙◌}
+use Rattle.std.proofs.Common.{◌≡◌, ℕ, Bool, true, false, cond, nat_lt, List, [], ◌∷◌, length, get_or, Some}
+use Rattle.std.proofs.Common.{Ok, Err, sym, ap, ◌∙◌}
 use Rattle.std.proofs.lemmas.List.FromFn.{length-map-range_with_len}
 use Rattle.ij_text.specs.declared.Place.{Place}
 use Rattle.icl_lexer.specs.Values.{SeenExpr}
@@ -37,21 +38,28 @@ lone_wide holder at width (SomeBits false bits) = free_wide holder width bits
 lone_wide holder at width (SomeBits true bits) = sized_wide holder width bits
 lone_wide holder at width (AText text) = tt
 
-then_wide : {A : Type 0} (width : ℕ) (r : Answer A) (next : A → Answer OpenBits) → ((x : A) → IsWide width (next x)) → IsWide width (r >>= next)
+then_wide : {A : Type 0} (width : ℕ) (r : Answer A) (next : A → Answer OpenBits)
+    → ((x : A) → IsWide width (next x)) → IsWide width (r >>= next)
 then_wide width (Ok x) next h = h x
 then_wide width (Err e) next h = tt
 
-parts_wide : (ps : Params) (holder : Place) (width : ℕ) (es : List SeenExpr) → IsWide width (parts_value ps holder width es)
-parts_wide ps holder width es = then_wide width (each (one_part ps holder) es) (λ parts. sized_in holder width (joined parts)) (λ parts. sized_wide holder width (joined parts))
+parts_wide : (ps : Params) (holder : Place) (width : ℕ) (es : List SeenExpr)
+    → IsWide width (parts_value ps holder width es)
+parts_wide ps holder width es = then_wide width (each (one_part ps holder) es)
+    (λ parts. sized_in holder width (joined parts)) (λ parts. sized_wide holder width (joined parts))
 
-value_is_wide : (ps : Params) (holder : Place) (width : ℕ) (es : List SeenExpr) → IsWide width (value_in ps holder width es)
+value_is_wide : (ps : Params) (holder : Place) (width : ℕ) (es : List SeenExpr)
+    → IsWide width (value_in ps holder width es)
 unfolding value_in
 value_is_wide ps holder width [] = parts_wide ps holder width []
-value_is_wide ps holder width (e ∷ []) = then_wide width (evaluate ps holder e) (lone_in holder (place_in holder e) width) (λ worth. lone_wide holder (place_in holder e) width worth)
+value_is_wide ps holder width (e ∷ []) = then_wide width (evaluate ps holder e)
+    (lone_in holder (place_in holder e) width) (λ worth. lone_wide holder (place_in holder e) width worth)
 value_is_wide ps holder width (e ∷ f ∷ es) = parts_wide ps holder width (e ∷ f ∷ es)
 
-pub value_wide : (ps : Params) (holder : Place) (width : ℕ) (es : List SeenExpr) (bits : OpenBits) → value_in ps holder width es ≡ Ok bits → length bits ≡ width
-value_wide ps holder width es bits h = by_answer (value_in ps holder width es) h (value_is_wide ps holder width es)
+pub value_wide : (ps : Params) (holder : Place) (width : ℕ) (es : List SeenExpr) (bits : OpenBits)
+    → value_in ps holder width es ≡ Ok bits → length bits ≡ width
+value_wide ps holder width es bits h =
+    by_answer (value_in ps holder width es) h (value_is_wide ps holder width es)
   where
     value : OpenBits → Answer OpenBits → OpenBits
     value d (Ok b) = b

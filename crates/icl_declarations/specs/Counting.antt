@@ -1,5 +1,5 @@
--- What is counted over all cells, and this compiler's limits: bits of scan registers, scan multiplexers, instruments, and the ports
--- of each instrument.
+-- What is counted over all cells, and this compiler's limits: bits of scan registers, scan multiplexers,
+-- instruments, and the ports of each instrument.
 use Rattle.std.specs.Prelude.{ℕ, ◌+◌, nat_lt, nat_le, Bool, ◌&&◌, List, zip, count_by, Ok}
 use Rattle.std.specs.List.{list_any}
 use Rattle.ij_text.specs.declared.Which.TheVariants.{ScanBits, Muxes, Instruments, Ports, PortBits}
@@ -11,8 +11,10 @@ use Rattle.icl_declarations.specs.Parts.{parts_of, is_data_port, port_that, is_d
 use Rattle.icl_declarations.specs.Ranges.{width}
 
 abbrev pub count_part : Counts → Bounds → SeenWhat → Answer Counts
-count_part c b (ARegister range props) = refuse_if (nat_lt 4096 (c.bits + width b)) (Limit ScanBits 4096) >>= λ u. Ok (record c { bits = c.bits + width b })
-count_part c b (AMux select rows) = refuse_if (nat_le 1024 c.muxes) (Limit Muxes 1024) >>= λ u. Ok (record c { muxes = c.muxes + 1 })
+count_part c b (ARegister range props) = refuse_if (nat_lt 4096 (c.bits + width b)) (Limit ScanBits 4096)
+    >>= λ u. Ok (record c { bits = c.bits + width b })
+count_part c b (AMux select rows) =
+    refuse_if (nat_le 1024 c.muxes) (Limit Muxes 1024) >>= λ u. Ok (record c { muxes = c.muxes + 1 })
 count_part c b what = Ok c
 
 -- ---- instruments
@@ -22,7 +24,8 @@ ports_over n test block = nat_lt n (count_by (λ item. test item.what) block.ite
 
 -- a data port of more than 64 bits
 abbrev pub has_wide_port : SeenModule → List Bounds → Bool
-has_wide_port block bounds = list_any (λ part. is_data_port part.0.what && nat_lt 64 (width part.1)) (zip (parts_of block) bounds)
+has_wide_port block bounds =
+    list_any (λ part. is_data_port part.0.what && nat_lt 64 (width part.1)) (zip (parts_of block) bounds)
 
 abbrev pub count_instrument : SeenModule → List Bounds → Counts → Answer Counts
 count_instrument block bounds c = do

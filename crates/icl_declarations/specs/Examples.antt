@@ -6,7 +6,8 @@ use Rattle.icl_lexer.specs.Values.{SeenExpr, ADecimal, ASized, AQuoted, AParam, 
 use Rattle.icl_declarations.specs.Faults.{NoParameter, DivideByZero, BadNumber, WidthDiffers, WrongKind}
 use Rattle.icl_declarations.specs.Values.{AnInteger, SomeBits, AText, Params, number_bits}
 use Rattle.icl_declarations.specs.Sized.{base_bits, decimal_bits}
-use Rattle.icl_declarations.specs.Expressions.{closed_number, size_of, sized_number, operate, evaluate, integer}
+use Rattle.icl_declarations.specs.Expressions.{closed_number, size_of, sized_number, operate, evaluate}
+use Rattle.icl_declarations.specs.Expressions.{integer}
 use Rattle.icl_declarations.specs.Widths.{value_in}
 
 -- an item, and an operator in it
@@ -18,7 +19,8 @@ sign = record { line = 1; col = 9 }
 
 -- W is 8, and T a text
 abbrev pub given : Params
-given = record { name = codes "W"; worth = AnInteger 8 } ∷ record { name = codes "T"; worth = AText (codes "a") } ∷ []
+given = record { name = codes "W"; worth = AnInteger 8 }
+    ∷ record { name = codes "T"; worth = AText (codes "a") } ∷ []
 
 abbrev pub w : SeenExpr
 w = AParam sign (codes "W")
@@ -36,7 +38,8 @@ pub below_zero : evaluate given item (AnOp sign Minus (ADecimal 4) w) ≡ Err (B
 unfolding evaluate operate
 below_zero = refl
 
-pub no_parameter : evaluate given item (AnOp sign Plus (AParam sign (codes "V")) (AQuoted [])) ≡ Err (NoParameter sign (codes "V"))
+pub no_parameter : evaluate given item (AnOp sign Plus (AParam sign (codes "V")) (AQuoted []))
+    ≡ Err (NoParameter sign (codes "V"))
 unfolding evaluate operate
 no_parameter = refl
 
@@ -51,15 +54,18 @@ text_itself = refl
 
 -- ---- sized numbers
 
-pub a_byte : sized_number given item (codes "8'hA5") ≡ Ok (SomeBits true (Some true ∷ Some false ∷ Some true ∷ Some false ∷ Some false ∷ Some true ∷ Some false ∷ Some true ∷ []))
+pub a_byte : sized_number given item (codes "8'hA5") ≡ Ok (SomeBits true
+    (Some true ∷ Some false ∷ Some true ∷ Some false ∷ Some false ∷ Some true ∷ Some false ∷ Some true ∷ []))
 unfolding number_bits base_bits decimal_bits size_of sized_number
 a_byte = refl
 
-pub open_digits : sized_number given item (codes "4'B1X_0") ≡ Ok (SomeBits true (Some false ∷ None ∷ Some true ∷ Some false ∷ []))
+pub open_digits : sized_number given item (codes "4'B1X_0")
+    ≡ Ok (SomeBits true (Some false ∷ None ∷ Some true ∷ Some false ∷ []))
 unfolding number_bits base_bits decimal_bits size_of sized_number
 open_digits = refl
 
-pub size_by_parameter : value_in given item 9 (ASized (codes "$W'b0") ∷ []) ≡ value_in given item 9 (ADecimal 0 ∷ [])
+pub size_by_parameter : value_in given item 9 (ASized (codes "$W'b0") ∷ [])
+    ≡ value_in given item 9 (ADecimal 0 ∷ [])
 unfolding number_bits base_bits decimal_bits size_of sized_number evaluate value_in
 size_by_parameter = refl
 
@@ -97,7 +103,8 @@ pub too_wide : value_in given item 2 (ADecimal 4 ∷ []) ≡ Err (WidthDiffers i
 unfolding number_bits evaluate value_in
 too_wide = refl
 
-pub zeros_above : value_in given item 3 (ASized (codes "'b00000100") ∷ []) ≡ Ok (Some false ∷ Some false ∷ Some true ∷ [])
+pub zeros_above : value_in given item 3 (ASized (codes "'b00000100") ∷ [])
+    ≡ Ok (Some false ∷ Some false ∷ Some true ∷ [])
 unfolding number_bits base_bits decimal_bits size_of sized_number evaluate value_in
 zeros_above = refl
 
@@ -106,7 +113,8 @@ unfolding number_bits base_bits decimal_bits size_of sized_number evaluate value
 no_sized_zeros_above = refl
 
 -- the left part stands high, and zeros are added on the left
-pub two_parts : value_in given item 4 (ASized (codes "1'b1") ∷ ASized (codes "2'b00") ∷ []) ≡ Ok (Some false ∷ Some false ∷ Some true ∷ Some false ∷ [])
+pub two_parts : value_in given item 4 (ASized (codes "1'b1") ∷ ASized (codes "2'b00") ∷ [])
+    ≡ Ok (Some false ∷ Some false ∷ Some true ∷ Some false ∷ [])
 unfolding number_bits base_bits decimal_bits size_of sized_number evaluate value_in
 two_parts = refl
 

@@ -1,6 +1,8 @@
--- What an expression is worth (IEEE 1687-2014: numbers, parameters and operators), or the first fault in it. A fault of a
--- parameter or of an operator stands at that token, and every other one at what holds the expression.
-use Rattle.std.specs.Prelude.{ℕ, ◌+◌, ◌-◌, ◌*◌, ◌/◌, ◌%◌, ◌==◌, ◌^◌, Bool, true, false, ◌&&◌, cond, nat_lt, List, [], ◌∷◌, map, Option, Some, None, Ok, Err}
+-- What an expression is worth (IEEE 1687-2014: numbers, parameters and operators), or the first fault in it.
+-- A fault of a parameter or of an operator stands at that token, and every other one at what holds the
+-- expression.
+use Rattle.std.specs.Prelude.{ℕ, ◌+◌, ◌-◌, ◌*◌, ◌/◌, ◌%◌, ◌==◌, ◌^◌, Bool, true, false, ◌&&◌, cond, nat_lt}
+use Rattle.std.specs.Prelude.{List, [], ◌∷◌, map, Option, Some, None, Ok, Err}
 use Rattle.std.specs.List.{list_all}
 use Rattle.std.specs.Option.{is_some, unwrap_or}
 use Rattle.ij_bits.specs.BitLists.{number_of}
@@ -21,7 +23,8 @@ small at n = cond (nat_lt n (2 ^ 32)) (Ok n) (Err (BadNumber at))
 
 -- the number of bits without x
 unfoldable pub closed_number : Place → OpenBits → Answer ℕ
-closed_number at bits = cond (list_all is_some bits) (small at (number_of (map (λ b. unwrap_or b false) bits))) (Err (BadNumber at))
+closed_number at bits = cond (list_all is_some bits)
+    (small at (number_of (map (λ b. unwrap_or b false) bits))) (Err (BadNumber at))
 
 abbrev pub as_integer : Place → Worth → Answer ℕ
 as_integer at (AnInteger n) = Ok n

@@ -1,11 +1,18 @@
--- What a module declares: kinds of items, and the names that differ among themselves (IEEE 1687-2014, ICL: Module).
-use Rattle.std.specs.Prelude.{ℕ, Bool, true, false, not, ◌&&◌, ◌||◌, List, [], map, filter, find, Option, None}
+-- What a module declares: kinds of items, and the names that differ among themselves (IEEE 1687-2014, ICL:
+-- Module).
+use Rattle.std.specs.Prelude.{ℕ, Bool, true, false, not, ◌&&◌, ◌||◌, List, [], map, filter, find, Option}
+use Rattle.std.specs.Prelude.{None}
 use Rattle.std.specs.List.{list_any}
 use Rattle.std.specs.Str.{bytes_eq}
 use Rattle.ij_bits.specs.BitLists.{same_bit}
 use Rattle.icl_lexer.specs.declared.tree.PortKind.{PortKind}
-use Rattle.icl_lexer.specs.declared.tree.PortKind.TheVariants.{ScanInPort, ScanOutPort, DataInPort, DataOutPort, SelectPort, CaptureEnPort, ShiftEnPort, UpdateEnPort, ResetPort, TCKPort, TMSPort, TRSTPort, ClockPort}
-use Rattle.icl_lexer.specs.Values.{SeenRange, SeenProp, ASource, SeenEnumWord, SeenWhat, APort, ARegister, AMux, AChild, AnAlias, SomeWords, AParameter, AnInterface, ALink, AnAttribute, SeenItem, SeenModule}
+use Rattle.icl_lexer.specs.declared.tree.PortKind.TheVariants.{ScanInPort, ScanOutPort, DataInPort}
+use Rattle.icl_lexer.specs.declared.tree.PortKind.TheVariants.{DataOutPort, SelectPort, CaptureEnPort}
+use Rattle.icl_lexer.specs.declared.tree.PortKind.TheVariants.{ShiftEnPort, UpdateEnPort, ResetPort, TCKPort}
+use Rattle.icl_lexer.specs.declared.tree.PortKind.TheVariants.{TMSPort, TRSTPort, ClockPort}
+use Rattle.icl_lexer.specs.Values.{SeenRange, SeenProp, ASource, SeenEnumWord, SeenWhat, APort, ARegister}
+use Rattle.icl_lexer.specs.Values.{AMux, AChild, AnAlias, SomeWords, AParameter, AnInterface, ALink}
+use Rattle.icl_lexer.specs.Values.{AnAttribute, SeenItem, SeenModule}
 
 -- ---- kinds of ports
 
@@ -111,7 +118,8 @@ is_rival what other = is_signal other
 
 -- whether the name of an item stands at one before it
 abbrev pub is_taken : List SeenItem → SeenItem → Bool
-is_taken before item = list_any (λ other. is_rival item.what other.what && bytes_eq item.name other.name) before
+is_taken before item =
+    list_any (λ other. is_rival item.what other.what && bytes_eq item.name other.name) before
 
 -- the words of an enumeration and the instructions of a link differ among themselves
 abbrev pub inner_names : SeenWhat → List (List ℕ)
@@ -148,22 +156,26 @@ is_parameter_that test what = false
 
 -- whether a module has a parameter of this name that passes a test on whether it is local
 abbrev pub has_parameter : (Bool → Bool) → SeenModule → List ℕ → Bool
-has_parameter test block name = list_any (λ item. is_parameter_that test item.what && bytes_eq name item.name) block.items
+has_parameter test block name =
+    list_any (λ item. is_parameter_that test item.what && bytes_eq name item.name) block.items
 
 -- a parameter that an instance may bind: not a local one
 abbrev pub is_open : SeenModule → List ℕ → Bool
-is_open block name = has_parameter (same_bit false) block name && not (has_parameter (same_bit true) block name)
+is_open block name = has_parameter (same_bit false) block name && not
+    (has_parameter (same_bit true) block name)
 
 -- ---- instruments
 
 -- what an instrument may not have: scan ports, registers, multiplexers, instances, and sources of its own
 abbrev pub is_not_of_instrument : SeenWhat → Bool
 is_not_of_instrument what =
-    port_that (λ kind. is_scan_in kind || is_scan_out kind) what || is_register what || is_mux what || is_child what || (port_that is_data_out what && has_source what)
+    port_that (λ kind. is_scan_in kind || is_scan_out kind) what || is_register what || is_mux what ||
+    is_child what || (port_that is_data_out what && has_source what)
 
 abbrev pub is_data_port : SeenWhat → Bool
 is_data_port what = port_that (λ kind. is_data_in kind || is_data_out kind) what
 
 -- a module whose instances are instruments: data ports alone join them to the network
 abbrev pub is_instrument : SeenModule → Bool
-is_instrument block = list_any (λ item. is_data_port item.what) block.items && not (list_any (λ item. is_not_of_instrument item.what) block.items)
+is_instrument block = list_any (λ item. is_data_port item.what) block.items && not
+    (list_any (λ item. is_not_of_instrument item.what) block.items)

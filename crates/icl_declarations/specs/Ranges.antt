@@ -1,6 +1,7 @@
--- Ranges (IEEE 1687-2014, ICL): the indices that a declaration has, and the positions that a reference names. Position 0 is
--- the right index.
-use Rattle.std.specs.Prelude.{ℕ, ◌+◌, ◌-◌, nat_lt, nat_le, Bool, ◌&&◌, ◌||◌, cond, List, Option, Some, None, Ok, Err}
+-- Ranges (IEEE 1687-2014, ICL): the indices that a declaration has, and the positions that a reference names.
+-- Position 0 is the right index.
+use Rattle.std.specs.Prelude.{ℕ, ◌+◌, ◌-◌, nat_lt, nat_le, Bool, ◌&&◌, ◌||◌, cond, List, Option, Some, None}
+use Rattle.std.specs.Prelude.{Ok, Err}
 use Rattle.std.specs.List.{range_with_len}
 use Rattle.ij_text.specs.declared.Place.{Place}
 use Rattle.ij_text.specs.declared.Which.TheVariants.{Width}
@@ -56,10 +57,12 @@ positions s = range_with_len s.low (s.high + 1 - s.low)
 
 -- a slice runs as its declaration does
 abbrev pub runs_along : Bounds → Bounds → Bool
-runs_along b i = has_index b i.left && has_index b i.right && nat_le (position_of b i.right) (position_of b i.left)
+runs_along b i = has_index b i.left && has_index b i.right && nat_le
+    (position_of b i.right) (position_of b i.left)
 
 abbrev pub stretch_of : Place → Bounds → Bounds → Answer Stretch
-stretch_of at b i = cond (runs_along b i) (Ok (record { low = position_of b i.right; high = position_of b i.left })) (Err (BadRange at))
+stretch_of at b i = cond (runs_along b i)
+    (Ok (record { low = position_of b i.right; high = position_of b i.left })) (Err (BadRange at))
 
 -- the positions that a reference with this range names, and all without a range
 abbrev pub named_in : Params → Bounds → Option SeenRange → Answer Stretch

@@ -11,7 +11,8 @@ use Rattle.icl_declarations.specs.Parts.{is_part, is_signal}
 abbrev pub part_from : ℕ → (SeenWhat → Bool) → List SeenItem → List ℕ → Option ℕ
 part_from n test [] name = None
 part_from n test (item ∷ items) name =
-    cond (is_part item.what) (cond (test item.what && bytes_eq name item.name) (Some n) (part_from (suc n) test items name)) (part_from n test items name)
+    cond (is_part item.what) (cond (test item.what && bytes_eq name item.name) (Some n)
+    (part_from (suc n) test items name)) (part_from n test items name)
 
 abbrev pub part_named : (SeenWhat → Bool) → List SeenItem → List ℕ → Option ℕ
 part_named test items name = part_from 0 test items name
@@ -23,7 +24,8 @@ entry_of scope name = lookup (λ key. bytes_eq name key.items) scope.parts.entri
 
 -- a part is added, unless one of its name is there
 abbrev pub IsAdded : Scope → Scope → List ℕ → ℕ → Type 0
-IsAdded old new name part = (n : List ℕ) → entry_of new n ≡ or_else (entry_of old n) (cond (bytes_eq n name) (Some part) None)
+IsAdded old new name part = (n : List ℕ)
+    → entry_of new n ≡ or_else (entry_of old n) (cond (bytes_eq n name) (Some part) None)
 
 -- a table has what it had
 abbrev pub IsKept : Scope → Scope → Type 0
@@ -35,4 +37,6 @@ IsScopeOf scope items = (name : List ℕ) → entry_of scope name ≡ part_named
 
 -- one item more: what the table and the items after it say is what the table before it and these items say
 abbrev pub GoesOn : Scope → Scope → ℕ → ℕ → SeenItem → Type 0
-GoesOn old new part next item = (rest : List SeenItem) (name : List ℕ) → or_else (entry_of new name) (part_from next is_signal rest name) ≡ or_else (entry_of old name) (part_from part is_signal (item ∷ rest) name)
+GoesOn old new part next item = (rest : List SeenItem) (name : List ℕ)
+    → or_else (entry_of new name) (part_from next is_signal rest name)
+    ≡ or_else (entry_of old name) (part_from part is_signal (item ∷ rest) name)

@@ -1,5 +1,7 @@
--- The bits of a sized number (IEEE 1687-2014), as `4'b1x00`, `$W'hFF` or `'d12`: a size or none, `'`, a base, and digits.
-use Rattle.std.specs.Prelude.{ℕ, ◌==◌, ◌^◌, Bool, false, not, ◌&&◌, ◌||◌, cond, nat_lt, List, [], ◌∷◌, ◌++◌, map, filter, length, drop, Option, Some, None}
+-- The bits of a sized number (IEEE 1687-2014), as `4'b1x00`, `$W'hFF` or `'d12`: a size or none, `'`, a base,
+-- and digits.
+use Rattle.std.specs.Prelude.{ℕ, ◌==◌, ◌^◌, Bool, false, not, ◌&&◌, ◌||◌, cond, nat_lt, List, [], ◌∷◌, ◌++◌}
+use Rattle.std.specs.Prelude.{map, filter, length, drop, Option, Some, None}
 use Rattle.std.specs.List.{list_all}
 use Rattle.std.specs.Char.{to_ascii_lowercase, is_ascii_digit, is_ascii_hexdigit}
 use Rattle.ij_bits.specs.BitLists.{bits_of}
@@ -46,7 +48,8 @@ digits_bits digit (b ∷ bs) = digits_bits digit bs ++ digit b
 -- a decimal has no x, and is below 2^128
 unfoldable pub decimal_bits : List ℕ → Option OpenBits
 decimal_bits digits =
-    cond (list_all is_ascii_digit digits && nat_lt (decimal_from 0 digits) (2 ^ 128)) (Some (number_bits 128 (decimal_from 0 digits))) None
+    cond (list_all is_ascii_digit digits && nat_lt (decimal_from 0 digits) (2 ^ 128))
+    (Some (number_bits 128 (decimal_from 0 digits))) None
 
 -- the bits of digits after a base, `b` (98), `d` (100) or `h` (104); none where they don't suit it
 unfoldable pub base_bits : ℕ → List ℕ → Option OpenBits

@@ -1,4 +1,5 @@
--- The names that stand at some items, in tables: one for each kind of items whose names differ among themselves.
+-- The names that stand at some items, in tables: one for each kind of items whose names differ among
+-- themselves.
 use Rattle.std.specs.Prelude.{◌≡◌, ℕ, Bool, ◌&&◌, List, [], ◌∷◌, ◌++◌, is_some}
 use Rattle.std.specs.List.{list_any}
 use Rattle.std.specs.Str.{bytes_eq}

@@ -46,4 +46,5 @@ worth_of (p ∷ ps) name = cond (bytes_eq name p.name) (Some p.worth) (worth_of 
 -- a value in place of one of the same name, or after the others
 abbrev pub with_worth : Params → List ℕ → Worth → Params
 with_worth [] name worth = record { name = name; worth = worth } ∷ []
-with_worth (p ∷ ps) name worth = cond (bytes_eq name p.name) (record p { worth = worth } ∷ ps) (p ∷ with_worth ps name worth)
+with_worth (p ∷ ps) name worth =
+    cond (bytes_eq name p.name) (record p { worth = worth } ∷ ps) (p ∷ with_worth ps name worth)

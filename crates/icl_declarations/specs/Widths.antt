@@ -1,4 +1,5 @@
--- Numbers and concatenations in the width that is wanted (IEEE 1687-2014: ResetValue, the values of an Enum and of a ScanMux).
+-- Numbers and concatenations in the width that is wanted (IEEE 1687-2014: ResetValue, the values of an Enum
+-- and of a ScanMux).
 use Rattle.std.specs.Prelude.{ℕ, true, false, cond, nat_lt, List, [], ◌∷◌, ◌++◌, length, Ok, Err}
 use Rattle.ij_text.specs.declared.Place.{Place}
 use Rattle.icl_lexer.specs.Values.{SeenExpr}
@@ -13,7 +14,8 @@ free_in holder width bits = cond (fits width bits) (Ok (in_width width bits)) (E
 
 -- bits with a size: zeros are added on the left, and none is dropped
 abbrev pub sized_in : Place → ℕ → OpenBits → Answer OpenBits
-sized_in holder width bits = cond (nat_lt width (length bits)) (Err (WidthDiffers holder)) (Ok (in_width width bits))
+sized_in holder width bits =
+    cond (nat_lt width (length bits)) (Err (WidthDiffers holder)) (Ok (in_width width bits))
 
 -- a number alone
 abbrev pub lone_in : Place → Place → ℕ → Worth → Answer OpenBits
@@ -41,7 +43,8 @@ abbrev pub lone_value : Params → Place → ℕ → SeenExpr → Answer OpenBit
 lone_value ps holder width e = evaluate ps holder e >>= lone_in holder (place_in holder e) width
 
 abbrev pub parts_value : Params → Place → ℕ → List SeenExpr → Answer OpenBits
-parts_value ps holder width es = each (one_part ps holder) es >>= λ parts. sized_in holder width (joined parts)
+parts_value ps holder width es = each (one_part ps holder) es
+    >>= λ parts. sized_in holder width (joined parts)
 
 -- a value in the width that is wanted: a number alone, or a concatenation
 unfoldable pub value_in : Params → Place → ℕ → List SeenExpr → Answer OpenBits

@@ -4,7 +4,8 @@ ghost use Rattle.std.specs.List.{list_any};
 ghost use Rattle.ij_text.specs.Options.{same};
 ghost use Rattle.icl_lexer.specs.Views.{seen_what, seen_prop, seen_item, seen_module};
 ghost use Rattle.icl_declarations.specs.Faults.{Gives};
-ghost use Rattle.icl_declarations.specs.Parts.{is_source, is_data_port, is_not_of_instrument, is_instrument, is_part, port_that, is_data_in, is_data_out};
+ghost use Rattle.icl_declarations.specs.Parts.{is_source, is_data_port, is_not_of_instrument, is_instrument};
+ghost use Rattle.icl_declarations.specs.Parts.{is_part, port_that, is_data_in, is_data_out};
 ghost use Rattle.icl_declarations.specs.Ranges.{width};
 ghost use Rattle.icl_declarations.specs.Counting.{count_part, count_instrument, has_wide_port};
 
@@ -136,7 +137,8 @@ pub fn is_instrument(block: &Module) -> bool
 
 /// Whether a module has more than 16 data inputs.
 fn has_many_inputs(items: &[Item]) -> bool
-    ensures { result ≡ nat_lt 16 (count_by (λ item. port_that is_data_in item.what) (map seen_item items.now)) }
+    ensures { result
+        ≡ nat_lt 16 (count_by (λ item. port_that is_data_in item.what) (map seen_item items.now)) }
 {
     let mut count: usize = 0;
     for item in items {
@@ -149,7 +151,8 @@ fn has_many_inputs(items: &[Item]) -> bool
 
 /// Whether a module has more than 16 data outputs.
 fn has_many_outputs(items: &[Item]) -> bool
-    ensures { result ≡ nat_lt 16 (count_by (λ item. port_that is_data_out item.what) (map seen_item items.now)) }
+    ensures { result
+        ≡ nat_lt 16 (count_by (λ item. port_that is_data_out item.what) (map seen_item items.now)) }
 {
     let mut count: usize = 0;
     for item in items {

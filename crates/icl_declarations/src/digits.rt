@@ -1,8 +1,11 @@
 // The digits of sized numbers.
-ghost use Rattle.std.specs.Prelude.{◌≡◌, ◌+◌, ◌*◌, ◌^◌, ◌<◌, ◌++◌, [], cond, length, Some, None, IfOk, OnOk, ◌==◌, ◌/◌, ◌%◌};
+ghost use Rattle.std.specs.Prelude.{◌≡◌, ◌+◌, ◌*◌, ◌^◌, ◌<◌, ◌++◌, [], cond, length, Some, None, IfOk, OnOk};
+ghost use Rattle.std.specs.Prelude.{◌==◌, ◌/◌, ◌%◌};
 ghost use Rattle.std.specs.List.{list_all};
 ghost use Rattle.icl_declarations.specs.Values.{number_bits};
-ghost use Rattle.icl_declarations.specs.Sized.{base_bits, after, binary_digit, bits_after, decimal_bits, digits_bits, front, hex_digit, is_binary, is_hexadecimal, plain};
+ghost use Rattle.icl_declarations.specs.Sized.{base_bits, after, binary_digit, bits_after, decimal_bits};
+ghost use Rattle.icl_declarations.specs.Sized.{digits_bits, front, hex_digit, is_binary, is_hexadecimal};
+ghost use Rattle.icl_declarations.specs.Sized.{plain};
 
 use ij_bits::OutOfMemory;
 use ij_text::{OpenBits, all_digits, decimal, hex_value};

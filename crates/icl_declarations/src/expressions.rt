@@ -30,7 +30,8 @@ fn operate(at: Place, sign: Sign, a: u32, b: u32) -> Result<u32, ElabFault>
     }
 }
 
-/// Where a fault of an expression's own value stands: at a parameter, and otherwise at what holds the expression.
+/// Where a fault of an expression's own value stands: at a parameter, and otherwise at what holds the
+/// expression.
 pub fn place_in(e: &Expr, holder: Place) -> Place
     ensures { result ≡ place_in holder (seen_expr e.now) }
 {

@@ -6,8 +6,9 @@ use ij_bits::OutOfMemory;
 use ij_text::{Name, Place, Which};
 use std::alloc::{AllocError, AllocFailed};
 
-/// Why a design of ICL (IEEE 1687-2014) isn't elaborated: the first fault that is met. A fault of a parameter or of an
-/// operator stands at that token; every other one stands at the innermost signal, range, binding or item that holds it.
+/// Why a design of ICL (IEEE 1687-2014) isn't elaborated: the first fault that is met. A fault of a parameter
+/// or of an operator stands at that token; every other one stands at the innermost signal, range, binding or
+/// item that holds it.
 #[derive(Drop)]
 pub enum ElabFault {
     /// There is no memory.

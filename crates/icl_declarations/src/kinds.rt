@@ -1,7 +1,10 @@
 // Kinds of ports and items.
 ghost use Rattle.std.specs.Prelude.{◌≡◌};
 ghost use Rattle.icl_lexer.specs.Views.{seen_what};
-ghost use Rattle.icl_declarations.specs.Parts.{is_scan_in, is_scan_out, is_data_in, is_data_out, is_control_in, is_input, is_register, is_mux, is_child, is_signal, is_interface, is_link, is_enum, is_parameter, is_part, port_that};
+ghost use Rattle.icl_declarations.specs.Parts.{is_scan_in, is_scan_out, is_data_in, is_data_out};
+ghost use Rattle.icl_declarations.specs.Parts.{is_control_in, is_input, is_register, is_mux, is_child};
+ghost use Rattle.icl_declarations.specs.Parts.{is_signal, is_interface, is_link, is_enum, is_parameter};
+ghost use Rattle.icl_declarations.specs.Parts.{is_part, port_that};
 
 use icl_lexer::{PortKind, What};
 

@@ -1,8 +1,9 @@
-//! What a module of ICL declares, and the values of ICL (IEEE 1687-2014): the kinds of a module's items, their names,
-//! which differ among themselves, the indices of a range, and what is counted over all cells; numbers with and without a
-//! size, parameters, expressions, and values in a width.
+//! What a module of ICL declares, and the values of ICL (IEEE 1687-2014): the kinds of a module's items,
+//! their names, which differ among themselves, the indices of a range, and what is counted over all cells;
+//! numbers with and without a size, parameters, expressions, and values in a width.
 //!
-//! Each call on values answers the value that `specs/` defines, or the first fault that is met on the way to it.
+//! Each call on values answers the value that `specs/` defines, or the first fault that is met on the way to
+//! it.
 #![tactic(auto)]
 
 mod counts;

@@ -19,7 +19,8 @@ use std::alloc::Global;
 /// Adds a name, which none of those before is.
 fn add_name(alloc: Global, at: Place, seen: &mut Scope, name: &[u8]) -> Result<(), ElabFault>
     ensures answer { Gives same result (refuse_if (has_entry seen.old name.now) (DoubleName at name.now)) }
-    ensures seen { OnOk result ((n : List ℕ) → has_entry seen.new n ≡ (has_entry seen.old n || bytes_eq n name.now)) }
+    ensures seen { OnOk result ((n : List ℕ)
+        → has_entry seen.new n ≡ (has_entry seen.old n || bytes_eq n name.now)) }
 {
     if seen.has(name) {
         let name = name_of(alloc, name)?;
@@ -64,7 +65,8 @@ fn distinct_inside(alloc: Global, item: &Item) -> Result<(), ElabFault>
 
 /// The name of an item, which isn't taken, and those in it.
 pub fn new_names(alloc: Global, taken: &Taken, item: &Item) -> Result<(), ElabFault>
-    ensures { (items : List SeenItem) → AreTaken taken.now items → Gives same result (new_names items (seen_item item.now)) }
+    ensures { (items : List SeenItem) → AreTaken taken.now items
+        → Gives same result (new_names items (seen_item item.now)) }
 {
     if taken.has(item) {
         let name = name_of(alloc, item.name.as_slice())?;

@@ -32,9 +32,11 @@ impl ParamTable {
         self.table.get(name)
     }
 
-    /// Gives a parameter a value, in place of the one that it has. After a refusal the parameters are as they were.
+    /// Gives a parameter a value, in place of the one that it has. After a refusal the parameters are as they
+    /// were.
     pub fn insert(&mut self, alloc: Global, name: &[u8], value: Value) -> Result<(), OutOfMemory>
-        ensures ok { OnOk result (seen_table self.new ≡ with_worth (seen_table self.old) name.now (seen_value value)) }
+        ensures ok { OnOk result (seen_table self.new
+            ≡ with_worth (seen_table self.old) name.now (seen_value value)) }
         ensures err { OnErr result (seen_table self.new ≡ seen_table self.old) }
     {
         let key = Vec::from_slice(alloc, name)?;

@@ -5,7 +5,8 @@ ghost use Rattle.ij_text.specs.Options.{same};
 ghost use Rattle.icl_lexer.specs.Views.{seen_expr, seen_range};
 ghost use Rattle.icl_declarations.specs.Faults.{Gives};
 ghost use Rattle.icl_declarations.specs.Tables.{seen_table};
-ghost use Rattle.icl_declarations.specs.Ranges.{has_index, position_of, right_or, indices, few_enough, declared, stretch_of, named_in, width};
+ghost use Rattle.icl_declarations.specs.Ranges.{has_index, position_of, right_or, indices, few_enough};
+ghost use Rattle.icl_declarations.specs.Ranges.{declared, stretch_of, named_in, width};
 
 use crate::expressions::integer;
 use crate::fault::ElabFault;

@@ -1,5 +1,6 @@
 // The parts of a module by their names.
-ghost use Rattle.std.specs.Prelude.{ℕ, List, None, ◌||◌, ◌≡◌, ◌<◌, ◌≤◌, ◌+◌, ◌^◌, map, length, IfOk, OnOk, OnErr};
+ghost use Rattle.std.specs.Prelude.{ℕ, List, None, ◌||◌, ◌≡◌, ◌<◌, ◌≤◌, ◌+◌, ◌^◌, map, length, IfOk, OnOk};
+ghost use Rattle.std.specs.Prelude.{OnErr};
 ghost use Rattle.icl_lexer.specs.Views.{seen_item};
 ghost use Rattle.icl_declarations.specs.Scopes.{GoesOn, IsAdded, IsKept, IsScopeOf, entry_of};
 ghost use Rattle.icl_declarations.specs.Taken.{KeepsNames, has_entry};
@@ -58,7 +59,8 @@ impl Scope {
 
     /// Adds a name. After want of memory the names are as they were.
     pub fn note(&mut self, alloc: Global, name: &[u8]) -> Result<(), OutOfMemory>
-        ensures ok { OnOk result ((n : List ℕ) → has_entry self.new n ≡ (has_entry self.old n || bytes_eq n name.now)) }
+        ensures ok { OnOk result ((n : List ℕ)
+            → has_entry self.new n ≡ (has_entry self.old n || bytes_eq n name.now)) }
         ensures err { OnErr result (KeepsNames self.old self.new) }
     {
         self.add(alloc, name, 0)

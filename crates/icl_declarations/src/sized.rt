@@ -6,7 +6,8 @@ ghost use Rattle.ij_text.specs.Numbers.{decimal_from, tern_bits};
 ghost use Rattle.icl_declarations.specs.Faults.{Gives};
 ghost use Rattle.icl_declarations.specs.Values.{seen_value};
 ghost use Rattle.icl_declarations.specs.Tables.{seen_table};
-ghost use Rattle.icl_declarations.specs.Expressions.{as_integer, parameter, parameter_size, size, size_of, told, number_of_size, sized_number};
+ghost use Rattle.icl_declarations.specs.Expressions.{as_integer, parameter, parameter_size, size, size_of};
+ghost use Rattle.icl_declarations.specs.Expressions.{told, number_of_size, sized_number};
 ghost use Rattle.icl_declarations.specs.Sized.{bits_after, plain};
 
 use crate::digits::{bits_after, plain, split};

@@ -52,7 +52,8 @@ impl Taken {
 
     /// Whether the name of an item is one of those from which it differs.
     pub fn has(&self, item: &Item) -> bool
-        ensures { (items : List SeenItem) → AreTaken self.now items → result ≡ is_taken items (seen_item item.now) }
+        ensures { (items : List SeenItem) → AreTaken self.now items
+            → result ≡ is_taken items (seen_item item.now) }
     {
         let name = item.name.as_slice();
         match &item.what {

@@ -6,7 +6,8 @@ ghost use Rattle.icl_declarations.specs.Faults.{Gives, each};
 ghost use Rattle.icl_declarations.specs.Values.{seen_value, number_bits};
 ghost use Rattle.icl_declarations.specs.Tables.{seen_table};
 ghost use Rattle.icl_declarations.specs.Expressions.{evaluate, place_in};
-ghost use Rattle.icl_declarations.specs.Widths.{free_in, sized_in, lone_in, part_of, one_part, joined, lone_value, parts_value, value_in};
+ghost use Rattle.icl_declarations.specs.Widths.{free_in, sized_in, lone_in, part_of, one_part, joined};
+ghost use Rattle.icl_declarations.specs.Widths.{lone_value, parts_value, value_in};
 
 use crate::digits::number_bits;
 use crate::expressions::{evaluate, place_in};
@@ -19,7 +20,8 @@ use ij_bits::{OutOfMemory, Tern};
 use ij_text::{OpenBits, Place, bit_at};
 use std::alloc::Global;
 
-/// A number without a size in a width: zeros are added or dropped on the left. `WidthDiffers` at the holder where a 1 or an x would be dropped.
+/// A number without a size in a width: zeros are added or dropped on the left. `WidthDiffers` at the holder
+/// where a 1 or an x would be dropped.
 pub fn free_in(alloc: Global, bits: Tern, width: u32, holder: Place) -> Result<Tern, ElabFault>
     ensures { Gives tern_bits result (free_in holder width (tern_bits bits)) }
 {
@@ -29,7 +31,8 @@ pub fn free_in(alloc: Global, bits: Tern, width: u32, holder: Place) -> Result<T
     }
 }
 
-/// Bits with a size in a width: zeros are added on the left. `WidthDiffers` at the holder where there are more bits.
+/// Bits with a size in a width: zeros are added on the left. `WidthDiffers` at the holder where there are
+/// more bits.
 pub fn sized_in(alloc: Global, bits: Tern, width: u32, holder: Place) -> Result<Tern, ElabFault>
     ensures { Gives tern_bits result (sized_in holder width (tern_bits bits)) }
 {
@@ -108,7 +111,8 @@ fn parts(
     es: &[Expr],
     holder: Place,
 ) -> Result<Vec<Tern>, ElabFault>
-    ensures { Gives (λ parts. map tern_bits parts.items) result (each (one_part (seen_table params.now) holder) (map seen_expr es.now)) }
+    ensures { Gives (λ parts. map tern_bits parts.items) result
+        (each (one_part (seen_table params.now) holder) (map seen_expr es.now)) }
 {
     let mut parts = Vec::new(alloc);
     for e in es {
@@ -195,7 +199,8 @@ fn parts_value(
     width: u32,
     holder: Place,
 ) -> Result<Tern, ElabFault>
-    ensures { Gives tern_bits result (parts_value (seen_table params.now) holder width (map seen_expr es.now)) }
+    ensures { Gives tern_bits result
+        (parts_value (seen_table params.now) holder width (map seen_expr es.now)) }
 {
     let parts = parts(alloc, params, es, holder)?;
     concatenation(alloc, &parts, width, holder)

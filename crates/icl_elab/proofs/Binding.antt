@@ -12,12 +12,16 @@ use Rattle.icl_elab.specs.Bindings.{Bound, is_bound, bound_refs, bind}
 use Rattle.icl_elab.specs.Marks.{bound_in}
 use Rattle.icl_elab.proofs.Rounds.{after}
 
-pub bind_parts : (frames : List Frame) (here : Here) (child : Frame) (bs : List Bound) (at : Place) (name : List ℕ) (range : Option SeenRange) (ss : List SeenSig)
-    → bind frames here child bs (ABoundPort at name range ss) ≡ (bound_in frames here child bs at name range ss >>= λ b. Ok (bs ++ b ∷ []))
+pub bind_parts : (frames : List Frame) (here : Here) (child : Frame) (bs : List Bound) (at : Place)
+    (name : List ℕ) (range : Option SeenRange) (ss : List SeenSig)
+    → bind frames here child bs (ABoundPort at name range ss)
+    ≡ (bound_in frames here child bs at name range ss >>= λ b. Ok (bs ++ b ∷ []))
 unfolding bind bound_in
 bind_parts frames here child bs at name range ss =
     after (named child at name) _ _ (λ b. Ok (bs ++ b ∷ []))
     (λ m. after (refuse_if (not (port_that is_input m.item.what)) (WrongKind at)) _ _ (λ b. Ok (bs ++ b ∷ []))
     (λ u. after (named_in here.frame.params m.bounds range) _ _ (λ b. Ok (bs ++ b ∷ []))
-    (λ s. after (refuse_if (list_any (is_bound bs m.part) (positions s)) (DoubleName at name)) _ _ (λ b. Ok (bs ++ b ∷ []))
-    (λ v. after (bound_refs frames here child at m.item.what s ss) _ _ (λ b. Ok (bs ++ b ∷ [])) (λ refs. refl)))))
+    (λ s. after (refuse_if (list_any (is_bound bs m.part) (positions s)) (DoubleName at name)) _ _
+    (λ b. Ok (bs ++ b ∷ []))
+    (λ v. after (bound_refs frames here child at m.item.what s ss) _ _
+    (λ b. Ok (bs ++ b ∷ [])) (λ refs. refl)))))

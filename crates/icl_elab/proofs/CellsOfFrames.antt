@@ -44,12 +44,15 @@ module _ (frames : List Frame) where
   cell_is : (here : Here) (fs : List Found) → cell_found frames here ≡ Ok fs → IsCellFound here fs
   unfolding cell_found
   cell_is here fs h =
-      each_paired (part_found frames here) (λ m. Unit {0}) (IsMemberFound here) (λ m f q g. g) (members here.frame) fs (all_true frames (members here.frame)) h
+      each_paired (part_found frames here) (λ m. Unit {0}) (IsMemberFound here) (λ m f q g. g)
+      (members here.frame) fs (all_true frames (members here.frame)) h
 
-  pass_is : (founds : List (List Found)) → second_pass frames ≡ Ok founds → Paired IsCellFound (cells_of frames) founds
+  pass_is : (founds : List (List Found)) → second_pass frames ≡ Ok founds
+      → Paired IsCellFound (cells_of frames) founds
   unfolding second_pass
   pass_is founds h =
-      each_paired (cell_found frames) (λ here. Unit {0}) IsCellFound (λ here fs q g. cell_is here fs g) (cells_of frames) founds (all_true frames (cells_of frames)) h
+      each_paired (cell_found frames) (λ here. Unit {0}) IsCellFound (λ here fs q g. cell_is here fs g)
+      (cells_of frames) founds (all_true frames (cells_of frames)) h
 
   part_is : (here : Here) (bs : List Bound) (m : Member) (f : Found) → IsMemberFound here m f
       → IsPartOfMember here.frame m (part_in bs (m, f))
@@ -63,7 +66,8 @@ module _ (frames : List Frame) where
         rows = λ worths w. bound_rows bs m f.role (part_rows frames here worths m f w kind.1 h);
       }
 
-  parts_are : (here : Here) (bs : List Bound) (ms : List Member) (fs : List Found) → Paired (IsMemberFound here) ms fs
+  parts_are : (here : Here) (bs : List Bound) (ms : List Member) (fs : List Found)
+      → Paired (IsMemberFound here) ms fs
       → Paired (IsPartOfMember here.frame) ms (map (part_in bs) (zip ms fs))
   parts_are here bs [] [] p = tt
   parts_are here bs [] (f ∷ fs) p = absurd p
@@ -77,8 +81,15 @@ module _ (frames : List Frame) where
   cells_are founds s [] (fs ∷ fss) p = absurd p
   cells_are founds s (f ∷ rest) [] p = absurd p
   cells_are founds s (f ∷ rest) (fs ∷ fss) p =
-      let here : Here = record { number = s; frame = f } in
-      (record { name = refl; parent = refl; parts = parts_are here (bindings_of founds s f.parent) (members f) fs p.0 }, cells_are founds (s + 1) rest fss p.1)
+      let here : Here = record { number = s; frame = f } in (
+        record {
+          name = refl;
+          parent = refl;
+          parts = parts_are here (bindings_of founds s f.parent)
+              (members f) fs p.0;
+        },
+        cells_are founds (s + 1) rest fss p.1,
+      )
 
 -- the frames that the cells go with
 pub record AreOfFrames (blocks : List SeenModule) (top : List ℕ) (cells : List CellOf) : Type 0 where
@@ -86,11 +97,16 @@ pub record AreOfFrames (blocks : List SeenModule) (top : List ℕ) (cells : List
   pub entered : first_pass blocks top ≡ Ok frames
   pub paired : Paired IsCellOfFrame frames cells
 
-pub cells_of_frames : (blocks : List SeenModule) (top : List ℕ) (cells : List CellOf) → hierarchy blocks top ≡ Ok cells
+pub cells_of_frames : (blocks : List SeenModule) (top : List ℕ) (cells : List CellOf)
+    → hierarchy blocks top ≡ Ok cells
     → AreOfFrames blocks top cells
 unfolding hierarchy
 cells_of_frames blocks top cells h =
     let a = both (first_pass blocks top) _ cells h in
     let b = both (second_pass a.first) _ cells a.then' in
     let p = cells_are a.first b.first 0 a.first b.first (pass_is a.first b.first b.is) in
-    record { frames = a.first; entered = a.is; paired = subst (Paired IsCellOfFrame a.first) (ok_is (put_together a.first b.first) cells b.then') p }
+    record {
+      frames = a.first;
+      entered = a.is;
+      paired = subst (Paired IsCellOfFrame a.first) (ok_is (put_together a.first b.first) cells b.then') p;
+    }

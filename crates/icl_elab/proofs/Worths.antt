@@ -1,5 +1,6 @@
 -- A number with a size has a bit, in an expression and among the parameters of every frame.
-use Rattle.std.proofs.Common.{◌≡◌, ◌+◌, ◌≤◌, ◌==◌, ℕ, zero, suc, Bool, true, false, not, cond, ◌&&◌, List, [], ◌∷◌, length, Option, Some, None, Ok, Err, refl, sym, subst, arith}
+use Rattle.std.proofs.Common.{◌≡◌, ◌+◌, ◌≤◌, ◌==◌, ℕ, zero, suc, Bool, true, false, not, cond, ◌&&◌, List, []}
+use Rattle.std.proofs.Common.{◌∷◌, length, Option, Some, None, Ok, Err, refl, sym, subst, arith}
 use Rattle.std.specs.Prelude.{nat_lt, get_or, IfSome, is_some}
 use Rattle.std.specs.Str.{bytes_eq}
 use Rattle.std.specs.List.{AllByRecursion}
@@ -7,13 +8,21 @@ use Rattle.std.proofs.lemmas.Bool.{and_parts, ltb-true}
 use Rattle.std.proofs.lemmas.List.FromFn.{length-map-range_with_len}
 use Rattle.ij_text.specs.declared.Place.{Place}
 use Rattle.ij_text.specs.Numbers.{decimal_from}
-use Rattle.icl_lexer.specs.Values.{SeenExpr, ADecimal, ASized, AQuoted, AParam, AnOp, SeenBind, ABoundPort, ABoundParameter, ABoundAttribute, SeenWhat, APort, ARegister, AMux, AChild, AnAlias, SomeWords, AParameter, AnInterface, ALink, AnAttribute, SeenItem, SeenModule}
+use Rattle.icl_lexer.specs.Values.{SeenExpr, ADecimal, ASized, AQuoted, AParam, AnOp, SeenBind, ABoundPort}
+use Rattle.icl_lexer.specs.Values.{ABoundParameter, ABoundAttribute, SeenWhat, APort, ARegister, AMux, AChild}
+use Rattle.icl_lexer.specs.Values.{AnAlias, SomeWords, AParameter, AnInterface, ALink, AnAttribute, SeenItem}
+use Rattle.icl_lexer.specs.Values.{SeenModule}
 use Rattle.icl_declarations.specs.Faults.{Answer, ◌>>=◌, refuse_if, NoName, DoubleName, BadNumber}
-use Rattle.icl_declarations.specs.Values.{OpenBits, Worth, AnInteger, SomeBits, AText, Given, Params, worth_of, with_worth}
-use Rattle.icl_declarations.specs.Sized.{front, after, plain, bits_after, fits, in_width, within_size, at_most_4096}
-use Rattle.icl_declarations.specs.Expressions.{as_integer, known, parameter, size, parameter_size, size_of, told, number_of_size, sized_number, operate, place_in, evaluate}
+use Rattle.icl_declarations.specs.Values.{OpenBits, Worth, AnInteger, SomeBits, AText, Given, Params}
+use Rattle.icl_declarations.specs.Values.{worth_of, with_worth}
+use Rattle.icl_declarations.specs.Sized.{front, after, plain, bits_after, fits, in_width, within_size}
+use Rattle.icl_declarations.specs.Sized.{at_most_4096}
+use Rattle.icl_declarations.specs.Expressions.{as_integer, known, parameter, size, parameter_size, size_of}
+use Rattle.icl_declarations.specs.Expressions.{told, number_of_size, sized_number, operate, place_in}
+use Rattle.icl_declarations.specs.Expressions.{evaluate}
 use Rattle.icl_declarations.specs.Parts.{is_open}
-use Rattle.icl_frames.specs.FirstPass.{Frame, worth_in, bound_worth, with_parameter, parameters, with_binding, first_pass}
+use Rattle.icl_frames.specs.FirstPass.{Frame, worth_in, bound_worth, with_parameter, parameters, with_binding}
+use Rattle.icl_frames.specs.FirstPass.{first_pass}
 use Rattle.icl_frames.specs.Preorder.{Declared, OfInstance, AreOfChildren, AreOfInstance, children_of}
 use Rattle.icl_frames.proofs.Answering.{both, ok_is, over_all}
 use Rattle.icl_frames.proofs.Entering.{frames_are_preorder}
@@ -34,11 +43,13 @@ worth_found : (ps : Params) (name : List ℕ) → AreWorths ps → IfSome (worth
 worth_found [] name h = tt
 worth_found (p ∷ ps) name h = by_test (bytes_eq name p.name) (worth_found ps name h.1)
   where
-    by_test : (b : Bool) → IfSome (worth_of ps name) IsWorth → IfSome (cond b (Some p.worth) (worth_of ps name)) IsWorth
+    by_test : (b : Bool) → IfSome (worth_of ps name) IsWorth
+        → IfSome (cond b (Some p.worth) (worth_of ps name)) IsWorth
     by_test true again = h.0
     by_test false again = again
 
-with_worth_kept : (ps : Params) (name : List ℕ) (w : Worth) → AreWorths ps → IsWorth w → AreWorths (with_worth ps name w)
+with_worth_kept : (ps : Params) (name : List ℕ) (w : Worth) → AreWorths ps
+    → IsWorth w → AreWorths (with_worth ps name w)
 with_worth_kept [] name w h g = (g, tt)
 with_worth_kept (p ∷ ps) name w h g = by_test (bytes_eq name p.name) (with_worth_kept ps name w h.1 g)
   where
@@ -69,9 +80,11 @@ size_of_is ps at [] o h = subst IsSize (ok_is None o h) tt
 size_of_is ps at (b ∷ bs) o h = by_test (b == 36) h
   where
     of_parameter : parameter_size ps at bs ≡ Ok o → IsSize o
-    of_parameter g = let a = both (parameter ps at bs >>= as_integer at) (size at) o g in size_is at a.first o a.then'
+    of_parameter g =
+        let a = both (parameter ps at bs >>= as_integer at) (size at) o g in size_is at a.first o a.then'
 
-    by_test : (t : Bool) → cond t (parameter_size ps at bs) (size at (decimal_from 0 (b ∷ bs))) ≡ Ok o → IsSize o
+    by_test : (t : Bool)
+        → cond t (parameter_size ps at bs) (size at (decimal_from 0 (b ∷ bs))) ≡ Ok o → IsSize o
     by_test true g = of_parameter g
     by_test false g = size_is at (decimal_from 0 (b ∷ bs)) o g
 
@@ -79,33 +92,40 @@ told_free : (at : Place) (o : Option OpenBits) (w : Worth) → told at false o �
 told_free at None w h = absurd cc
 told_free at (Some bits) w h = subst IsWorth (ok_is (SomeBits false bits) w h) tt
 
-told_sized : (at : Place) (n : ℕ) (bits : OpenBits) (w : Worth) → 1 ≤ n → told at true (within_size n bits) ≡ Ok w → IsWorth w
+told_sized : (at : Place) (n : ℕ) (bits : OpenBits) (w : Worth) → 1 ≤ n
+    → told at true (within_size n bits) ≡ Ok w → IsWorth w
 told_sized at n bits w le h = by_test (fits n bits) h
   where
     by_test : (b : Bool) → told at true (cond b (Some (in_width n bits)) None) ≡ Ok w → IsWorth w
     by_test true g =
-        subst IsWorth (ok_is (SomeBits true (in_width n bits)) w g) (subst (λ k. 1 ≤ k) (sym (length-map-range_with_len (λ k. get_or bits k (Some false)) 0 n)) le)
+        subst IsWorth (ok_is (SomeBits true (in_width n bits)) w g)
+        (subst (λ k. 1 ≤ k) (sym (length-map-range_with_len (λ k. get_or bits k (Some false)) 0 n)) le)
     by_test false g = absurd cc
 
-number_worth : (at : Place) (o : Option OpenBits) (n : Option ℕ) (w : Worth) → IsSize n → number_of_size at o n ≡ Ok w → IsWorth w
+number_worth : (at : Place) (o : Option OpenBits) (n : Option ℕ) (w : Worth) → IsSize n
+    → number_of_size at o n ≡ Ok w → IsWorth w
 number_worth at None n w s h = absurd cc
 number_worth at (Some bits) None w s h = told_free at (at_most_4096 bits) w h
 number_worth at (Some bits) (Some n) w s h = told_sized at n bits w s h
 
 -- ---- expressions
 
-known_worth : (at : Place) (name : List ℕ) (o : Option Worth) (w : Worth) → IfSome o IsWorth → known at name o ≡ Ok w → IsWorth w
+known_worth : (at : Place) (name : List ℕ) (o : Option Worth) (w : Worth)
+    → IfSome o IsWorth → known at name o ≡ Ok w → IsWorth w
 known_worth at name None w g h = absurd cc
 known_worth at name (Some v) w g h = subst IsWorth (ok_is v w h) g
 
-pub evaluate_worth : (ps : Params) (at : Place) (e : SeenExpr) (w : Worth) → AreWorths ps → evaluate ps at e ≡ Ok w → IsWorth w
+pub evaluate_worth : (ps : Params) (at : Place) (e : SeenExpr) (w : Worth)
+    → AreWorths ps → evaluate ps at e ≡ Ok w → IsWorth w
 unfolding evaluate sized_number
 evaluate_worth ps at (ADecimal n) w g h = subst IsWorth (ok_is (AnInteger n) w h) tt
 evaluate_worth ps at (ASized text) w g h =
     let a = both (size_of ps at (front text)) (number_of_size at (bits_after (plain (after text)))) w h in
-    number_worth at (bits_after (plain (after text))) a.first w (size_of_is ps at (front text) a.first a.is) a.then'
+    number_worth at (bits_after (plain (after text))) a.first w
+    (size_of_is ps at (front text) a.first a.is) a.then'
 evaluate_worth ps at (AQuoted text) w g h = subst IsWorth (ok_is (AText text) w h) tt
-evaluate_worth ps at (AParam place name) w g h = known_worth place name (worth_of ps name) w (worth_found ps name g) h
+evaluate_worth ps at (AParam place name) w g h =
+    known_worth place name (worth_of ps name) w (worth_found ps name g) h
 evaluate_worth ps at (AnOp place sign x y) w g h =
     let a = both (evaluate ps at x >>= as_integer (place_in at x)) _ w h in
     let b = both (evaluate ps at y >>= as_integer (place_in at y)) _ w a.then' in
@@ -114,12 +134,14 @@ evaluate_worth ps at (AnOp place sign x y) w g h =
 
 -- ---- the parameters of frames
 
-in_worth : (given ps : Params) (at : Place) (name : List ℕ) (e : SeenExpr) (o : Option Worth) (w : Worth) → AreWorths ps
+in_worth : (given ps : Params) (at : Place) (name : List ℕ) (e : SeenExpr) (o : Option Worth) (w : Worth)
+    → AreWorths ps
     → IfSome o IsWorth → worth_in given ps at name e o ≡ Ok w → IsWorth w
 in_worth given ps at name e None w g i h = evaluate_worth ps at e w g h
 in_worth given ps at name e (Some v) w g i h = subst IsWorth (ok_is v w h) i
 
-bound_is : (given : Params) (local : Bool) (name : List ℕ) → AreWorths given → IfSome (bound_worth given local name) IsWorth
+bound_is : (given : Params) (local : Bool) (name : List ℕ) → AreWorths given
+    → IfSome (bound_worth given local name) IsWorth
 bound_is given true name g = tt
 bound_is given false name g = worth_found given name g
 
@@ -127,7 +149,9 @@ parameter_kept : (given ps qs : Params) (item : SeenItem) (what : SeenWhat) → 
     → with_parameter given ps item what ≡ Ok qs → AreWorths qs
 parameter_kept given ps qs item (AParameter local e) g i h =
     let a = both (worth_in given ps item.at item.name e (bound_worth given local item.name)) _ qs h in
-    subst AreWorths (ok_is (with_worth ps item.name a.first) qs a.then') (with_worth_kept ps item.name a.first i (in_worth given ps item.at item.name e (bound_worth given local item.name) a.first i (bound_is given local item.name g) a.is))
+    subst AreWorths (ok_is (with_worth ps item.name a.first) qs a.then')
+    (with_worth_kept ps item.name a.first i (in_worth given ps item.at item.name e
+    (bound_worth given local item.name) a.first i (bound_is given local item.name g) a.is))
 parameter_kept given ps qs item (APort kind range props) g i h = subst AreWorths (ok_is ps qs h) i
 parameter_kept given ps qs item (ARegister range props) g i h = subst AreWorths (ok_is ps qs h) i
 parameter_kept given ps qs item (AMux select rows) g i h = subst AreWorths (ok_is ps qs h) i
@@ -138,17 +162,21 @@ parameter_kept given ps qs item (AnInterface ports) g i h = subst AreWorths (ok_
 parameter_kept given ps qs item (ALink kind entity instrs) g i h = subst AreWorths (ok_is ps qs h) i
 parameter_kept given ps qs item (AnAttribute value) g i h = subst AreWorths (ok_is ps qs h) i
 
-parameters_worths : (given ps : Params) (block : SeenModule) → AreWorths given → parameters given block ≡ Ok ps → AreWorths ps
+parameters_worths : (given ps : Params) (block : SeenModule) → AreWorths given
+    → parameters given block ≡ Ok ps → AreWorths ps
 parameters_worths given ps block g h =
-    over_all (λ qs (item : SeenItem). with_parameter given qs item item.what) AreWorths (λ qs rs item i e. parameter_kept given qs rs item item.what g i e) [] ps block.items tt h
+    over_all (λ qs (item : SeenItem). with_parameter given qs item item.what) AreWorths
+    (λ qs rs item i e. parameter_kept given qs rs item item.what g i e) [] ps block.items tt h
 
-binding_kept : (ps : Params) (block : SeenModule) (given gs : Params) (b : SeenBind) → AreWorths ps → AreWorths given
+binding_kept : (ps : Params) (block : SeenModule) (given gs : Params) (b : SeenBind)
+    → AreWorths ps → AreWorths given
     → with_binding ps block given b ≡ Ok gs → AreWorths gs
 binding_kept ps block given gs (ABoundParameter at name e) g i h =
     let a = both (refuse_if (not (is_open block name)) (NoName at name)) _ gs h in
     let b = both (refuse_if (is_some (worth_of given name)) (DoubleName at name)) _ gs a.then' in
     let c = both (evaluate ps at e) _ gs b.then' in
-    subst AreWorths (ok_is (with_worth given name c.first) gs c.then') (with_worth_kept given name c.first i (evaluate_worth ps at e c.first g c.is))
+    subst AreWorths (ok_is (with_worth given name c.first) gs c.then')
+    (with_worth_kept given name c.first i (evaluate_worth ps at e c.first g c.is))
 binding_kept ps block given gs (ABoundPort at name range sigs) g i h = subst AreWorths (ok_is given gs h) i
 binding_kept ps block given gs (ABoundAttribute name value) g i h = subst AreWorths (ok_is given gs h) i
 
@@ -156,24 +184,35 @@ abbrev pub AreFramesWorths : List Frame → Type 0
 AreFramesWorths frames = AllByRecursion (λ (f : Frame). AreWorths f.params) frames
 
 children_worths : (blocks : List SeenModule) (Is : OfInstance)
-    → ((number : ℕ) (parent : Option ℕ) (name : List ℕ) (block : SeenModule) (given : Params) (frames : List Frame) → AreWorths given → Is number parent name block given frames → AreFramesWorths frames)
+    → ((number : ℕ) (parent : Option ℕ) (name : List ℕ) (block : SeenModule) (given : Params) (frames :
+    List Frame) → AreWorths given → Is number parent name block given frames → AreFramesWorths frames)
     → (number parent : ℕ) (ps : Params) → AreWorths ps → (ds : List Declared) (frames : List Frame)
     → AreOfChildren blocks Is number parent ps ds frames → AreFramesWorths frames
 children_worths blocks Is good number parent ps g [] frames h = subst AreFramesWorths (sym h) tt
 children_worths blocks Is good number parent ps g (d ∷ ds) frames (xs, ys, e, child, others) =
-    let given = over_all (with_binding ps child.block) AreWorths (λ gs hs b i e. binding_kept ps child.block gs hs b g i e) [] child.given d.binds tt child.bound in
+    let given = over_all (with_binding ps child.block) AreWorths
+    (λ gs hs b i e. binding_kept ps child.block gs hs b g i e) [] child.given d.binds tt child.bound in
     subst AreFramesWorths (sym e)
-    (all_both (λ (f : Frame). AreWorths f.params) xs ys (good number (Some parent) d.name child.block child.given xs given child.instance) (children_worths blocks Is good (number + length xs) parent ps g ds ys others))
+    (all_both (λ (f : Frame). AreWorths f.params) xs ys
+    (good number (Some parent) d.name child.block child.given xs given child.instance)
+    (children_worths blocks Is good (number + length xs) parent ps g ds ys others))
 
-instance_worths : (blocks : List SeenModule) (levels number : ℕ) (parent : Option ℕ) (name : List ℕ) (block : SeenModule) (given : Params) (frames : List Frame)
-    → AreWorths given → AreOfInstance blocks levels number parent name block given frames → AreFramesWorths frames
+instance_worths : (blocks : List SeenModule) (levels number : ℕ) (parent : Option ℕ) (name : List ℕ)
+    (block : SeenModule) (given : Params) (frames : List Frame)
+    → AreWorths given → AreOfInstance blocks levels number parent name block given frames
+    → AreFramesWorths frames
 instance_worths blocks zero number parent name block given frames g h = absurd h
 instance_worths blocks (suc levels) number parent name block given [] g h = absurd h
 instance_worths blocks (suc levels) number parent name block given (f ∷ frames) g h =
-    let own = parameters_worths given f.params block g h.3 in
-    (own, children_worths blocks (AreOfInstance blocks levels) (λ n p m b v fs i e. instance_worths blocks levels n p m b v fs i e) (suc number) number f.params own (children_of block.items) frames h.4)
+    let own = parameters_worths given f.params block g h.3 in (
+      own,
+      children_worths blocks (AreOfInstance blocks levels) (λ n p m b v fs i e. instance_worths blocks
+          levels n p m b v fs i e) (suc number) number f.params own (children_of block.items) frames h.4,
+    )
 
-pub frames_worths : (blocks : List SeenModule) (top : List ℕ) (frames : List Frame) → first_pass blocks top ≡ Ok frames
+pub frames_worths : (blocks : List SeenModule) (top : List ℕ) (frames : List Frame)
+    → first_pass blocks top ≡ Ok frames
     → AreFramesWorths frames
 frames_worths blocks top frames h =
-    let p = frames_are_preorder blocks top frames h in instance_worths blocks 65 0 None [] p.block [] frames tt p.instance
+    let p = frames_are_preorder blocks top frames h in
+    instance_worths blocks 65 0 None [] p.block [] frames tt p.instance

@@ -1,11 +1,15 @@
--- The second pass of elaboration (IEEE 1687-2014, ICL): what each part of a cell is, its signals and values resolved; or the
--- first fault. The parts go in the order of the text, and in a part what stands in it from left to right.
+-- The second pass of elaboration (IEEE 1687-2014, ICL): what each part of a cell is, its signals and values
+-- resolved; or the first fault. The parts go in the order of the text, and in a part what stands in it from
+-- left to right.
 use Rattle.std.specs.Prelude.{ℕ, not, ◌&&◌, List, [], ◌∷◌, find, Option, Some, None, Ok, Err}
 use Rattle.std.specs.Str.{bytes_eq}
 use Rattle.ij_text.specs.declared.Place.{Place}
 use Rattle.icl_lexer.specs.declared.tree.PortKind.{PortKind}
-use Rattle.icl_lexer.specs.declared.tree.PortKind.TheVariants.{ScanInPort, ScanOutPort, DataInPort, DataOutPort}
-use Rattle.icl_lexer.specs.Values.{SeenSig, SeenProp, ASource, ARefEnum, AScanInSource, ACaptureSource, AResetValue, SeenBind, SeenEnumWord, SeenLinkInstr, SeenWhat, APort, ARegister, AMux, AChild, AnAlias, AnInterface, ALink, SeenItem, SeenModule}
+use Rattle.icl_lexer.specs.declared.tree.PortKind.TheVariants.{ScanInPort, ScanOutPort, DataInPort}
+use Rattle.icl_lexer.specs.declared.tree.PortKind.TheVariants.{DataOutPort}
+use Rattle.icl_lexer.specs.Values.{SeenSig, SeenProp, ASource, ARefEnum, AScanInSource, ACaptureSource}
+use Rattle.icl_lexer.specs.Values.{AResetValue, SeenBind, SeenEnumWord, SeenLinkInstr, SeenWhat, APort}
+use Rattle.icl_lexer.specs.Values.{ARegister, AMux, AChild, AnAlias, AnInterface, ALink, SeenItem, SeenModule}
 use Rattle.icl_declarations.specs.Faults.{Answer, ◌>>=◌, refuse_if, each, over, NoName, WrongKind}
 use Rattle.icl_declarations.specs.Values.{OpenBits, Params}
 use Rattle.icl_declarations.specs.Widths.{value_in}
@@ -15,7 +19,9 @@ use Rattle.icl_declarations.specs.Ranges.{width}
 use Rattle.icl_frames.specs.FirstPass.{Frame}
 use Rattle.icl_references.specs.Names.{Here, Member, members, member_that, known_member, named, inside}
 use Rattle.icl_references.specs.Signals.{scan_signal, data_signals, alias_signals, control_signals}
-use Rattle.icl_references.specs.Roles.{Selection, Role, ScanInput, ScanOutput, DataInput, DataOutput, ControlPort, AScanRegister, AnAliasOf, AnInstance, AnInterfaceOf, AnAccessLink, Word}
+use Rattle.icl_references.specs.Roles.{Selection, Role, ScanInput, ScanOutput, DataInput, DataOutput}
+use Rattle.icl_references.specs.Roles.{ControlPort, AScanRegister, AnAliasOf, AnInstance, AnInterfaceOf}
+use Rattle.icl_references.specs.Roles.{AnAccessLink, Word}
 use Rattle.icl_references.specs.Muxes.{mux_role}
 use Rattle.icl_elab.specs.Bindings.{Bound, bind, all_whole}
 
@@ -42,7 +48,8 @@ word_of ps at wide w = value_in ps at wide w.value >>= λ value. Ok (record { na
 
 -- the words of an enumeration, each in the width of the part that refers to it
 unfoldable pub words_named : Frame → Member → List ℕ → Answer (List Word)
-words_named frame m name = known_enum m.item.at name (enum_named frame.block name) >>= each (word_of frame.params m.item.at (width m.bounds))
+words_named frame m name = known_enum m.item.at name (enum_named frame.block name)
+    >>= each (word_of frame.params m.item.at (width m.bounds))
 
 module _ (frames : List Frame) (here : Here) where
   -- ---- ports
@@ -53,12 +60,14 @@ module _ (frames : List Frame) (here : Here) where
 
   abbrev pub source_role : PortKind → Member → Role → List SeenSig → Answer Role
   source_role ScanOutPort m role ss = first_scan m.item.at ss >>= λ r. Ok (ScanOutput (Some r))
-  source_role DataOutPort m role ss = data_signals frames here m.item.at (width m.bounds) ss >>= λ refs. Ok (DataOutput (Some refs))
+  source_role DataOutPort m role ss =
+      data_signals frames here m.item.at (width m.bounds) ss >>= λ refs. Ok (DataOutput (Some refs))
   source_role kind m role ss = control_signals frames here ss >>= λ u. Ok role
 
   unfoldable pub port_prop : PortKind → Member → Found → SeenProp → Answer Found
   port_prop kind m f (ASource ss) = source_role kind m f.role ss >>= λ role. Ok (record f { role = role })
-  port_prop kind m f (ARefEnum name) = words_named here.frame m name >>= λ words. Ok (record f { words = words })
+  port_prop kind m f (ARefEnum name) =
+      words_named here.frame m name >>= λ words. Ok (record f { words = words })
   port_prop kind m f prop = Ok f
 
   abbrev pub port_role : PortKind → Role
@@ -82,9 +91,12 @@ module _ (frames : List Frame) (here : Here) where
 
   unfoldable pub register_prop : Member → Said → SeenProp → Answer Said
   register_prop m s (AScanInSource sig) = scan_signal frames here sig >>= λ r. Ok (record s { scan = Some r })
-  register_prop m s (ACaptureSource ss) = data_signals frames here m.item.at (width m.bounds) ss >>= λ refs. Ok (record s { capture = Some refs })
-  register_prop m s (AResetValue value) = value_in here.frame.params m.item.at (width m.bounds) value >>= λ bits. Ok (record s { reset = Some bits })
-  register_prop m s (ARefEnum name) = words_named here.frame m name >>= λ words. Ok (record s { words = words })
+  register_prop m s (ACaptureSource ss) =
+      data_signals frames here m.item.at (width m.bounds) ss >>= λ refs. Ok (record s { capture = Some refs })
+  register_prop m s (AResetValue value) = value_in here.frame.params m.item.at (width m.bounds) value
+      >>= λ bits. Ok (record s { reset = Some bits })
+  register_prop m s (ARefEnum name) =
+      words_named here.frame m name >>= λ words. Ok (record s { words = words })
   register_prop m s prop = Ok s
 
   abbrev pub register_found : Said → Found
@@ -123,12 +135,17 @@ module _ (frames : List Frame) (here : Here) where
 
   abbrev pub found_at : Member → SeenWhat → Answer Found
   found_at m (APort kind range props) = over (port_prop kind m) (found (port_role kind)) props
-  found_at m (ARegister range props) = over (register_prop m) nothing_said props >>= λ s. Ok (register_found s)
+  found_at m (ARegister range props) =
+      over (register_prop m) nothing_said props >>= λ s. Ok (register_found s)
   found_at m (AMux select rows) = mux_role frames here m.item.at select rows >>= λ role. Ok (found role)
-  found_at m (AChild module' binds) = inside frames here m.item.at m.item.name m.item.what >>= instance_found m.item.at binds
-  found_at m (AnAlias range sigs props) = alias_signals frames here m.item.at (width m.bounds) sigs >>= λ refs. over (alias_prop m) (found (AnAliasOf refs)) props
-  found_at m (AnInterface ports) = each (port_number m.item.at) ports >>= λ numbers. Ok (found (AnInterfaceOf numbers))
-  found_at m (ALink kind entity instrs) = each (selection m.item.at) instrs >>= λ selections. Ok (found (AnAccessLink selections))
+  found_at m (AChild module' binds) =
+      inside frames here m.item.at m.item.name m.item.what >>= instance_found m.item.at binds
+  found_at m (AnAlias range sigs props) = alias_signals frames here m.item.at (width m.bounds) sigs
+      >>= λ refs. over (alias_prop m) (found (AnAliasOf refs)) props
+  found_at m (AnInterface ports) = each (port_number m.item.at) ports
+      >>= λ numbers. Ok (found (AnInterfaceOf numbers))
+  found_at m (ALink kind entity instrs) =
+      each (selection m.item.at) instrs >>= λ selections. Ok (found (AnAccessLink selections))
   found_at m what = Ok (found ControlPort)
 
   unfoldable pub part_found : Member → Answer Found

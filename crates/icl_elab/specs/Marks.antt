@@ -1,5 +1,7 @@
--- The bindings of an instance, and a table of the bits that they bind: for each part and position the number of its binding.
-use Rattle.std.specs.Prelude.{◌≡◌, ℕ, nat_lt, ◌==◌, Bool, not, ◌||◌, List, [], length, slice_index_or, Option, None, Ok}
+-- The bindings of an instance, and a table of the bits that they bind: for each part and position the number
+-- of its binding.
+use Rattle.std.specs.Prelude.{◌≡◌, ℕ, nat_lt, ◌==◌, Bool, not, ◌||◌, List, [], length, slice_index_or, Option}
+use Rattle.std.specs.Prelude.{None, Ok}
 use Rattle.std.specs.List.{list_any, list_all, position_from, range_with_len}
 use Rattle.icl_lexer.specs.Values.{SeenRange, SeenSig}
 use Rattle.ij_text.specs.declared.Place.{Place}
@@ -33,7 +35,8 @@ pub record AreMarked (rows : List (List (Option ℕ))) (bs : List Bound) : Type 
 
 -- a part that is bound somewhere is bound everywhere
 abbrev pub is_whole_part : List Bound → Member → Bool
-is_whole_part bs m = not (list_any (λ b. b.part == m.part) bs) || list_all (is_bound bs m.part) (range_with_len 0 (width m.bounds))
+is_whole_part bs m = not (list_any (λ b. b.part == m.part) bs) || list_all
+    (is_bound bs m.part) (range_with_len 0 (width m.bounds))
 
 -- ---- one binding of a port
 
@@ -42,7 +45,8 @@ abbrev pub nowhere : Here
 nowhere = here_at [] 0
 
 -- the bits that it binds, none of them bound already, and what it binds them to
-unfoldable pub bound_in : List Frame → Here → Frame → List Bound → Place → List ℕ → Option SeenRange → List SeenSig → Answer Bound
+unfoldable pub bound_in : List Frame → Here → Frame → List Bound → Place → List ℕ
+    → Option SeenRange → List SeenSig → Answer Bound
 bound_in frames here child bs at name range ss = do
   m ← named child at name
   input ← refuse_if (not (port_that is_input m.item.what)) (WrongKind at)

@@ -1,5 +1,7 @@
--- How the second pass gives each cell what its instance binds: where each cell's instance stands, and what the ports are then.
-use Rattle.std.specs.Prelude.{ℕ, ◌+◌, Bool, List, [], ◌∷◌, map, slice_get, slice_index_or, Option, Some, None, unwrap_or, Ok}
+-- How the second pass gives each cell what its instance binds: where each cell's instance stands, and what
+-- the ports are then.
+use Rattle.std.specs.Prelude.{ℕ, ◌+◌, Bool, List, [], ◌∷◌, map, slice_get, slice_index_or, Option, Some, None}
+use Rattle.std.specs.Prelude.{unwrap_or, Ok}
 use Rattle.std.specs.List.{position_from}
 use Rattle.std.specs.Option.{option_map}
 use Rattle.icl_declarations.specs.Faults.{Answer, ◌>>=◌}
@@ -53,7 +55,8 @@ port_bound bs part wide (DataInput bound) = Some (DataInput (refs_of bs part wid
 port_bound bs part wide role = None
 
 abbrev pub port_of : List Bound → Placed → Option Role
-port_of bs p = port_bound bs p.number (width (record { left = p.part.left; right = p.part.right })) (seen_body p.part.body)
+port_of bs p = port_bound bs p.number
+    (width (record { left = p.part.left; right = p.part.right })) (seen_body p.part.body)
 
 abbrev pub seen_ports : List (Option Body) → List (Option Role)
 seen_ports ports = map (option_map seen_body) ports
@@ -65,7 +68,8 @@ seen_cell_ports c = seen_ports c.ports.items
 abbrev pub ports_from : List (List Found) → ℕ → List Frame → List CellParts → List (List (Option Role))
 ports_from founds s [] cells = []
 ports_from founds s (f ∷ fs) [] = []
-ports_from founds s (f ∷ fs) (c ∷ cells) = map (port_of (bindings_of founds s f.parent)) c.parts.items ∷ ports_from founds (s + 1) fs cells
+ports_from founds s (f ∷ fs) (c ∷ cells) =
+    map (port_of (bindings_of founds s f.parent)) c.parts.items ∷ ports_from founds (s + 1) fs cells
 
 -- ---- parts and cells
 
@@ -85,7 +89,8 @@ parts_with [] ports = []
 parts_with (p ∷ ps) ports = part_with p (first_port ports) ∷ parts_with ps (rest_ports ports)
 
 abbrev pub cell_with : Frame → List Placed → List (Option Role) → CellOf
-cell_with f ps ports = record { name = f.name; parent = f.parent; module_name = f.block.name; parts = parts_with ps ports }
+cell_with f ps ports =
+    record { name = f.name; parent = f.parent; module_name = f.block.name; parts = parts_with ps ports }
 
 abbrev pub first_ports : List (List (Option Role)) → List (Option Role)
 first_ports [] = []

@@ -1,4 +1,5 @@
--- What the second pass gives, without where it lies in memory, and what each part has in common with its member.
+-- What the second pass gives, without where it lies in memory, and what each part has in common with its
+-- member.
 use Rattle.std.specs.Prelude.{ℕ, List, map}
 use Rattle.ij_text.specs.declared.Place.{Place}
 use Rattle.icl_frames.specs.FirstPass.{Frame}
@@ -23,10 +24,22 @@ pub record PartHead : Type 0 where
   pub right : ℕ
 
 abbrev pub head_of_member : Member → PartHead
-head_of_member m = record { number = m.part; name = m.item.name; at = m.item.at; left = m.bounds.left; right = m.bounds.right }
+head_of_member m = record {
+  number = m.part;
+  name = m.item.name;
+  at = m.item.at;
+  left = m.bounds.left;
+  right = m.bounds.right;
+}
 
 abbrev pub head_of_placed : Placed → PartHead
-head_of_placed p = record { number = p.number; name = p.part.name.items; at = p.part.at; left = p.part.left; right = p.part.right }
+head_of_placed p = record {
+  number = p.number;
+  name = p.part.name.items;
+  at = p.part.at;
+  left = p.part.left;
+  right = p.part.right;
+}
 
 abbrev pub heads_of_frame : Frame → List PartHead
 heads_of_frame f = map head_of_member (members f)

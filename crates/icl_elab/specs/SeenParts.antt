@@ -15,8 +15,10 @@ use Rattle.icl_elab.specs.declared.registers.RegisterParts.{RegisterParts}
 use Rattle.icl_elab.specs.declared.parts.Found.{Found as FoundAt}
 use Rattle.icl_references.specs.Names.{Here, Member, known_member}
 use Rattle.icl_references.specs.Signals.{alias_signals}
-use Rattle.icl_references.specs.Roles.{Word, Selection, AnAliasOf, seen_body, seen_word, seen_refs, seen_selection}
-use Rattle.icl_elab.specs.FoundParts.{Found, found, Said, nothing_said, register_prop, register_found, alias_prop}
+use Rattle.icl_references.specs.Roles.{Word, Selection, AnAliasOf, seen_body, seen_word, seen_refs}
+use Rattle.icl_references.specs.Roles.{seen_selection}
+use Rattle.icl_elab.specs.FoundParts.{Found, found, Said, nothing_said, register_prop, register_found}
+use Rattle.icl_elab.specs.FoundParts.{alias_prop}
 
 abbrev pub seen_words : Listed (Listed ℕ × Tern) → List Word
 seen_words words = map seen_word words.items
@@ -33,7 +35,12 @@ seen_resolved r = record { role = seen_body r.body; words = seen_words r.words; 
 
 -- what a register's properties say
 abbrev pub seen_said : (frames : List Frame) (here : Here) → RegisterParts → Said frames here
-seen_said frames here r = record { scan = r.scan; capture = option_map seen_refs r.capture; reset = option_map tern_bits r.reset; words = seen_words r.words }
+seen_said frames here r = record {
+  scan = r.scan;
+  capture = option_map seen_refs r.capture;
+  reset = option_map tern_bits r.reset;
+  words = seen_words r.words;
+}
 
 abbrev pub seen_found : FoundAt → Found
 seen_found f = record { role = seen_body f.body; words = seen_words f.words; bound = f.bound }
@@ -49,8 +56,10 @@ known_number at name m = known_member at name m >>= λ n. Ok n.part
 
 -- what a register is
 abbrev pub register_answer : List Frame → Here → Member → List SeenProp → Answer Found
-register_answer frames here m props = over (register_prop frames here m) (nothing_said frames here) props >>= λ s. Ok (register_found frames here s)
+register_answer frames here m props = over (register_prop frames here m) (nothing_said frames here) props
+    >>= λ s. Ok (register_found frames here s)
 
 -- what an alias is
 abbrev pub alias_answer : List Frame → Here → Member → List SeenSig → List SeenProp → Answer Found
-alias_answer frames here m sigs props = alias_signals frames here m.item.at (width m.bounds) sigs >>= λ refs. over (alias_prop frames here m) (found (AnAliasOf refs)) props
+alias_answer frames here m sigs props = alias_signals frames here m.item.at (width m.bounds) sigs
+    >>= λ refs. over (alias_prop frames here m) (found (AnAliasOf refs)) props

@@ -1,13 +1,16 @@
--- What holds of every hierarchy of an accepted design (IEEE 1687-2014, ICL): names differ where they must, names are names of ICL,
--- multiplexers have rows, and the counts are within this compiler's limits.
-use Rattle.std.specs.Prelude.{◌≡◌, ◌≤◌, ◌<◌, ◌^◌, ℕ, Bool, true, false, not, ◌&&◌, List, [], ◌∷◌, ◌++◌, map, filter, length, sum_by, Option, Ok, is_some, IfSome, IsTrue}
+-- What holds of every hierarchy of an accepted design (IEEE 1687-2014, ICL): names differ where they must,
+-- names are names of ICL, multiplexers have rows, and the counts are within this compiler's limits.
+use Rattle.std.specs.Prelude.{◌≡◌, ◌≤◌, ◌<◌, ◌^◌, ℕ, Bool, true, false, not, ◌&&◌, List, [], ◌∷◌, ◌++◌, map}
+use Rattle.std.specs.Prelude.{filter, length, sum_by, Option, Ok, is_some, IfSome, IsTrue}
 use Rattle.std.specs.List.{AllByRecursion, list_any, enumerate_from}
 use Rattle.ij_bits.specs.Different.{AreDifferent}
 use Rattle.ij_text.specs.Words.{is_name}
 use Rattle.icl_lexer.specs.Values.{SeenModule}
 use Rattle.icl_frames.specs.Laws.{IsBelow, level_below}
 use Rattle.icl_frames.specs.Written.{AreWritten}
-use Rattle.icl_references.specs.Roles.{Choice, Role, ScanInput, ScanOutput, DataInput, DataOutput, AScanRegister, AScanMux, AnAliasOf, AnInstance, PartOf, CellOf, part_width}
+use Rattle.icl_references.specs.Roles.{Choice, Role, ScanInput, ScanOutput, DataInput, DataOutput}
+use Rattle.icl_references.specs.Roles.{AScanRegister, AScanMux, AnAliasOf, AnInstance, PartOf, CellOf}
+use Rattle.icl_references.specs.Roles.{part_width}
 use Rattle.icl_elab.specs.Hierarchy.{hierarchy}
 use Rattle.icl_elab.specs.Laws.{AreWired}
 
@@ -55,7 +58,8 @@ is_not_of_instrument role = false
 -- an instance that data ports alone join to the network
 abbrev pub is_instrument : CellOf → Bool
 is_instrument c =
-    is_some c.parent && list_any (λ p. is_data_port p.role) c.parts && not (list_any (λ p. is_not_of_instrument p.role) c.parts)
+    is_some c.parent && list_any (λ p. is_data_port p.role) c.parts && not
+    (list_any (λ p. is_not_of_instrument p.role) c.parts)
 
 -- ---- the tree
 
@@ -73,7 +77,8 @@ IsInstanceNamed c = IfSome c.parent (λ parent. IsTrue (is_name c.name))
 -- a multiplexer has a select bit, and rows with values
 abbrev pub HasRows : Role → Type 0
 HasRows (AScanMux select rows) =
-    (1 ≤ length select) × (1 ≤ length rows) × (length rows < 2 ^ 32) × AllByRecursion (λ (row : Choice). 1 ≤ length row.values) rows
+    (1 ≤ length select) × (1 ≤ length rows) × (length rows < 2 ^ 32)
+    × AllByRecursion (λ (row : Choice). 1 ≤ length row.values) rows
 HasRows role = Unit {0}
 
 pub record IsPartNamed (p : PartOf) : Type 0 where
@@ -137,13 +142,16 @@ pub record IsHierarchy (cells : List CellOf) : Type 0 where
 
 abbrev pub HierarchiesAreInTree : Type 0
 HierarchiesAreInTree =
-    (blocks : List SeenModule) (top : List ℕ) (cells : List CellOf) → hierarchy blocks top ≡ Ok cells → AreInTree cells
+    (blocks : List SeenModule) (top : List ℕ) (cells : List CellOf)
+    → hierarchy blocks top ≡ Ok cells → AreInTree cells
 
 abbrev pub HierarchiesAreFew : Type 0
 HierarchiesAreFew =
-    (blocks : List SeenModule) (top : List ℕ) (cells : List CellOf) → hierarchy blocks top ≡ Ok cells → AreCellsFew cells
+    (blocks : List SeenModule) (top : List ℕ) (cells : List CellOf)
+    → hierarchy blocks top ≡ Ok cells → AreCellsFew cells
 
 -- of modules that the grammar gives
 abbrev pub HierarchiesAreWellFormed : Type 0
 HierarchiesAreWellFormed =
-    (blocks : List SeenModule) (top : List ℕ) (cells : List CellOf) → AreWritten blocks → hierarchy blocks top ≡ Ok cells → IsHierarchy cells
+    (blocks : List SeenModule) (top : List ℕ) (cells : List CellOf) → AreWritten blocks
+    → hierarchy blocks top ≡ Ok cells → IsHierarchy cells

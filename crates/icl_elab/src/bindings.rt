@@ -1,5 +1,6 @@
 // What an instance binds its input ports to, bit by bit.
-ghost use Rattle.std.specs.Prelude.{◌≡◌, ◌+◌, ◌-◌, ◌==◌, ◌++◌, ◌∷◌, [], map, slice_index_or, false, IfOk, IfErr};
+ghost use Rattle.std.specs.Prelude.{◌≡◌, ◌+◌, ◌-◌, ◌==◌, ◌++◌, ◌∷◌, [], map, slice_index_or, false, IfOk};
+ghost use Rattle.std.specs.Prelude.{IfErr};
 ghost use Rattle.std.specs.List.{list_any, list_all, position_from, range_with_len};
 ghost use Rattle.std.specs.Option.{option_map};
 ghost use Rattle.ij_text.specs.Options.{same};
@@ -23,7 +24,8 @@ use ij_text::{Place, name_of};
 use std::alloc::Global;
 use std::marker::Model;
 
-/// Bits of an input port that are bound, and what they are bound to, position 0 first: nothing that is kept, for a control port.
+/// Bits of an input port that are bound, and what they are bound to, position 0 first: nothing that is kept,
+/// for a control port.
 #[derive(Drop)]
 pub(crate) struct Bound {
     /// The port, by its number among the parts.
@@ -34,7 +36,8 @@ pub(crate) struct Bound {
     pub refs: List<Ref>,
 }
 
-/// The bindings of an instance, in the order of the text. Whether a bit is bound, and to what, is found without a search.
+/// The bindings of an instance, in the order of the text. Whether a bit is bound, and to what, is found
+/// without a search.
 ///
 /// Contracts see the list of the bindings.
 #[derive(Drop)]
@@ -221,7 +224,8 @@ fn scan_signals(
     sigs: &[Sig],
 ) -> Result<List<Ref>, ElabFault>
     requires { IsHere tables.now here }
-    ensures { Gives seen_refs result (each (scan_signal (frames_of tables.now) (here_in tables.now here)) (map seen_sig sigs.now)) }
+    ensures { Gives seen_refs result
+        (each (scan_signal (frames_of tables.now) (here_in tables.now here)) (map seen_sig sigs.now)) }
 {
     let mut refs = List::new(alloc);
     for sig in sigs {
@@ -264,7 +268,8 @@ fn bound_refs(
     sigs: &[Sig],
 ) -> Result<List<Ref>, ElabFault>
     requires { IsHere tables.now here }
-    ensures { Gives seen_refs result (bound_refs (frames_of tables.now) (here_in tables.now here) no_frame at (seen_what what.now) s (map seen_sig sigs.now)) }
+    ensures { Gives seen_refs result (bound_refs (frames_of tables.now) (here_in tables.now here) no_frame at
+        (seen_what what.now) s (map seen_sig sigs.now)) }
 {
     if is_scan_in_port(what) {
         let refs = scan_signals(alloc, tables, here, sigs)?;
@@ -293,7 +298,9 @@ fn bound_in(
 ) -> Result<Bound, ElabFault>
     requires here { IsHere tables.now here }
     requires child { IsHere tables.now child }
-    ensures { Gives seen_bound result (bound_in (frames_of tables.now) (here_in tables.now here) (here_in tables.now child).frame bindings.now at name.now.items (option_map seen_range range.now) (map seen_sig sigs.now)) }
+    ensures { Gives seen_bound result
+        (bound_in (frames_of tables.now) (here_in tables.now here) (here_in tables.now child).frame
+        bindings.now at name.now.items (option_map seen_range range.now) (map seen_sig sigs.now)) }
 {
     let m = tables.named(alloc, child, at, name.as_slice())?;
     if !is_input_port(&m.item.what) {
@@ -312,9 +319,10 @@ fn bound_in(
     })
 }
 
-/// The bindings of an instance of this cell, which is that cell, with one more (IEEE 1687-2014, ICL: `InputPort`). `NoName` of a port that the module
-/// hasn't, `WrongKind` of one that is no input, the faults of the range, `DoubleName` at a bit that is bound already, then the faults of
-/// the signals, then `WidthDiffers`.
+/// The bindings of an instance of this cell, which is that cell, with one more (IEEE 1687-2014, ICL:
+/// `InputPort`). `NoName` of a port that the module hasn't, `WrongKind` of one that is no input, the faults
+/// of the range, `DoubleName` at a bit that is bound already, then the faults of the signals, then
+/// `WidthDiffers`.
 #[tactic(auto, unfolding(crate::specs::Bindings::bind))]
 pub(crate) fn bind(
     alloc: Global,
@@ -326,7 +334,8 @@ pub(crate) fn bind(
 ) -> Result<Bindings, ElabFault>
     requires here { IsHere tables.now here }
     requires child { IsHere tables.now child }
-    ensures { Gives same result (bind (frames_of tables.now) (here_in tables.now here) (here_in tables.now child).frame bindings (seen_bind binding.now)) }
+    ensures { Gives same result (bind (frames_of tables.now) (here_in tables.now here)
+        (here_in tables.now child).frame bindings (seen_bind binding.now)) }
 {
     match binding {
         Bind::Port {
@@ -352,7 +361,8 @@ pub(crate) fn bind(
     }
 }
 
-/// All bindings of an instance of this cell, which is that cell. `WidthDiffers` at the instance where a port is bound at some of its bits alone.
+/// All bindings of an instance of this cell, which is that cell. `WidthDiffers` at the instance where a port
+/// is bound at some of its bits alone.
 pub(crate) fn bind_all(
     alloc: Global,
     tables: &Tables,
@@ -362,7 +372,8 @@ pub(crate) fn bind_all(
 ) -> Result<Bindings, ElabFault>
     requires here { IsHere tables.now here }
     requires child { IsHere tables.now child }
-    ensures { Gives same result (over (bind (frames_of tables.now) (here_in tables.now here) (here_in tables.now child).frame) [] (map seen_bind binds.now)) }
+    ensures { Gives same result (over (bind (frames_of tables.now) (here_in tables.now here)
+        (here_in tables.now child).frame) [] (map seen_bind binds.now)) }
 {
     let mut bindings = Bindings::new(alloc);
     for binding in binds {

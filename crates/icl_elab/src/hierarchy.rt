@@ -1,5 +1,6 @@
 // The hierarchy of a design.
-ghost use Rattle.std.specs.Prelude.{◌≡◌, ℕ, ◌+◌, ◌<◌, ◌==◌, ◌&&◌, [], map, length, reverse, cond, Some, None, IfOk, IfErr, OnOk};
+ghost use Rattle.std.specs.Prelude.{◌≡◌, ℕ, ◌+◌, ◌<◌, ◌==◌, ◌&&◌, [], map, length, reverse, cond, Some, None};
+ghost use Rattle.std.specs.Prelude.{IfOk, IfErr, OnOk};
 ghost use Rattle.std.specs.List.{position_from};
 ghost use Rattle.std.specs.Option.{option_map};
 ghost use Rattle.ij_text.specs.Options.{or_else};
@@ -13,7 +14,10 @@ ghost use Rattle.icl_references.specs.Names.{is_in};
 ghost use Rattle.icl_elab.specs.Hierarchy.{bindings_of, first_ref, hierarchy, is_this_cell, put_together};
 ghost use Rattle.icl_elab.specs.Laws.{AreNumbered, AreWired};
 ghost use Rattle.icl_elab.specs.Preorder.{AreInstances};
-ghost use Rattle.icl_elab.specs.Placing.{bound_by, cell_with, first_port, rest_ports, home_at, home_in, is_of_cell, made, parent_in, part_with, parts_with, port_of, ports_from, first_ports, other_ports, resolved, seen_cell_ports, seen_ports};
+ghost use Rattle.icl_elab.specs.Placing.{bound_by, cell_with, first_port, rest_ports, home_at, home_in};
+ghost use Rattle.icl_elab.specs.Placing.{is_of_cell, made, parent_in, part_with, parts_with, port_of};
+ghost use Rattle.icl_elab.specs.Placing.{ports_from, first_ports, other_ports, resolved, seen_cell_ports};
+ghost use Rattle.icl_elab.specs.Placing.{seen_ports};
 ghost use Rattle.icl_references.specs.Roles.{seen_body, seen_cell, seen_hier, seen_part};
 ghost use Rattle.icl_elab.specs.SeenCells.{heads_of_cells, heads_of_frame, seen_pass};
 ghost use Rattle.icl_references.specs.Tables.{AreTables, frames_of};
@@ -44,7 +48,8 @@ fn is_in(parent: Option<u32>, cell: u32) -> bool
 fn note_home(tables: &Tables, homes: &mut [Option<usize>], here: u32, child: u32, part: usize)
     requires tables { AreTables tables.now }
     requires long { length homes.old ≡ length (frames_of tables.now) }
-    ensures { (c : ℕ) → c < length homes.old → home_at homes.new c ≡ or_else (home_at homes.old c) (cond (is_in (parent_in (frames_of tables.now) c) here && child == c) (Some part) None) }
+    ensures { (c : ℕ) → c < length homes.old → home_at homes.new c ≡ or_else (home_at homes.old c)
+        (cond (is_in (parent_in (frames_of tables.now) c) here && child == c) (Some part) None) }
 {
     let i = child as usize;
     if i < homes.len() && homes[i].is_none() && is_in(tables.frame(child).parent, here) {
@@ -56,7 +61,9 @@ fn note_home(tables: &Tables, homes: &mut [Option<usize>], here: u32, child: u32
 fn note_part(tables: &Tables, homes: &mut [Option<usize>], here: u32, part: usize, body: &Body)
     requires tables { AreTables tables.now }
     requires long { length homes.old ≡ length (frames_of tables.now) }
-    ensures { (c : ℕ) → c < length homes.old → home_at homes.new c ≡ or_else (home_at homes.old c) (cond (is_in (parent_in (frames_of tables.now) c) here && is_this_cell c (seen_body body.now)) (Some part) None) }
+    ensures { (c : ℕ) → c < length homes.old
+        → home_at homes.new c ≡ or_else (home_at homes.old c) (cond (is_in
+        (parent_in (frames_of tables.now) c) here && is_this_cell c (seen_body body.now)) (Some part) None) }
 {
     if let Body::Child { cell } = body {
         note_home(tables, homes, here, *cell, part);
@@ -67,7 +74,8 @@ fn note_part(tables: &Tables, homes: &mut [Option<usize>], here: u32, part: usiz
 fn note_parts(tables: &Tables, homes: &mut [Option<usize>], here: u32, parts: &[Placed])
     requires tables { AreTables tables.now }
     requires long { length homes.old ≡ length (frames_of tables.now) }
-    ensures { (c : ℕ) → c < length homes.old → home_at homes.new c ≡ or_else (home_at homes.old c) (cond (is_in (parent_in (frames_of tables.now) c) here) (position_from (is_of_cell c) 0 parts.now) None) }
+    ensures { (c : ℕ) → c < length homes.old → home_at homes.new c ≡ or_else (home_at homes.old c) (cond
+        (is_in (parent_in (frames_of tables.now) c) here) (position_from (is_of_cell c) 0 parts.now) None) }
 {
     for (k, p) in parts.iter().enumerate() {
         note_part(tables, homes, here, k, &p.part.body);
@@ -95,7 +103,8 @@ fn homes(
     requires tables { AreTables tables.now }
     requires long { length cells.now ≡ length (frames_of tables.now) }
     ensures long { IfOk result (λ homes. length homes.items ≡ length cells.now) }
-    ensures homes { IfOk result (λ homes. (c : ℕ) → c < length cells.now → home_at homes.items c ≡ home_in cells.now c (parent_in (frames_of tables.now) c)) }
+    ensures homes { IfOk result (λ homes. (c : ℕ) → c < length cells.now
+        → home_at homes.items c ≡ home_in cells.now c (parent_in (frames_of tables.now) c)) }
 {
     let mut homes = no_homes(alloc, cells.len())?;
     for here in 0..tables.len() {
@@ -133,7 +142,8 @@ fn bound_in_parent<'a>(
     home: Option<usize>,
 ) -> &'a Bindings
     requires { nothing.now ≡ [] }
-    ensures { (c : ℕ) → home ≡ home_in cells.now c parent → result.now ≡ bindings_of (seen_pass cells.now) c parent }
+    ensures { (c : ℕ) → home ≡ home_in cells.now c parent
+        → result.now ≡ bindings_of (seen_pass cells.now) c parent }
 {
     match parent {
         Some(parent) => match home {
@@ -169,7 +179,8 @@ fn port_bound(alloc: Global, bindings: &Bindings, p: &Placed) -> Result<Option<B
 
 /// How many bits a part has.
 fn part_width(part: &Part) -> Result<u32, ElabFault>
-    ensures ok { IfOk result (λ wide. wide ≡ width (record { left = part.now.left; right = part.now.right })) }
+    ensures ok { IfOk result (λ wide. wide
+        ≡ width (record { left = part.now.left; right = part.now.right })) }
     ensures told { IfErr result (λ e. e ≡ ElabFault.OutOfMemory) }
 {
     // No part that the first pass lets by has more than 65,536.
@@ -250,10 +261,12 @@ fn add_ports(
     requires tables { AreTables tables.now }
     requires long { length cells.now ≡ length (frames_of tables.now) }
     requires home_count { length homes.now ≡ length cells.now }
-    requires homes { (c : ℕ) → c < length cells.now → home_at homes.now c ≡ home_in cells.now c (parent_in (frames_of tables.now) c) }
+    requires homes { (c : ℕ) → c < length cells.now
+        → home_at homes.now c ≡ home_in cells.now c (parent_in (frames_of tables.now) c) }
     requires nothing { nothing.now ≡ [] }
     requires none { all.old.items ≡ [] }
-    ensures ok { OnOk result (map seen_cell_ports all.new.items ≡ ports_from (seen_pass cells.now) 0 (frames_of tables.now) cells.now) }
+    ensures ok { OnOk result (map seen_cell_ports all.new.items
+        ≡ ports_from (seen_pass cells.now) 0 (frames_of tables.now) cells.now) }
     ensures told { IfErr result (λ e. e ≡ ElabFault.OutOfMemory) }
 {
     for here in 0..tables.len() {
@@ -273,7 +286,8 @@ fn all_ports(
 ) -> Result<Vec<CellPorts>, ElabFault>
     requires tables { AreTables tables.now }
     requires long { length cells.now ≡ length (frames_of tables.now) }
-    ensures ok { IfOk result (λ all. map seen_cell_ports all.items ≡ ports_from (seen_pass cells.now) 0 (frames_of tables.now) cells.now) }
+    ensures ok { IfOk result (λ all. map seen_cell_ports all.items
+        ≡ ports_from (seen_pass cells.now) 0 (frames_of tables.now) cells.now) }
     ensures told { IfErr result (λ e. e ≡ ElabFault.OutOfMemory) }
 {
     let homes = homes(alloc, tables, cells)?;
@@ -321,7 +335,8 @@ fn with_ports(
     placed: Vec<Placed>,
     ports: Vec<Option<Body>>,
 ) -> Result<List<Part>, OutOfMemory>
-    ensures { IfOk result (λ parts. map seen_part parts.items ≡ parts_with placed.items (seen_ports ports.items)) }
+    ensures { IfOk result (λ parts. map seen_part parts.items
+        ≡ parts_with placed.items (seen_ports ports.items)) }
 {
     let mut left = placed;
     let mut ports_left = ports;
@@ -342,7 +357,8 @@ fn cell_of(
     placed: Vec<Placed>,
     ports: Vec<Option<Body>>,
 ) -> Result<Cell, OutOfMemory>
-    ensures { IfOk result (λ c. seen_cell c ≡ cell_with (seen_frame frame.now) placed.items (seen_ports ports.items)) }
+    ensures { IfOk result (λ c. seen_cell c
+        ≡ cell_with (seen_frame frame.now) placed.items (seen_ports ports.items)) }
 {
     let name = name_of(alloc, frame.name)?;
     let module = name_of(alloc, frame.block.name.as_slice())?;
@@ -358,7 +374,8 @@ fn cell_of(
 /// The ports of the next cell, of those that are left.
 fn next_ports(alloc: Global, left: &mut Vec<CellPorts>) -> Vec<Option<Body>>
     ensures ports { seen_ports result.items ≡ first_ports (map seen_cell_ports (reverse left.old.items)) }
-    ensures rest { map seen_cell_ports (reverse left.new.items) ≡ other_ports (map seen_cell_ports (reverse left.old.items)) }
+    ensures rest { map seen_cell_ports (reverse left.new.items)
+        ≡ other_ports (map seen_cell_ports (reverse left.old.items)) }
 {
     match left.pop() {
         Some(c) => c.ports,
@@ -375,7 +392,8 @@ fn all_cells(
 ) -> Result<List<Cell>, OutOfMemory>
     requires tables { AreTables tables.now }
     requires long { length cells.items ≡ length (frames_of tables.now) }
-    ensures { IfOk result (λ out. map seen_cell out.items ≡ made (frames_of tables.now) cells.items (map seen_cell_ports all.items)) }
+    ensures { IfOk result (λ out. map seen_cell out.items
+        ≡ made (frames_of tables.now) cells.items (map seen_cell_ports all.items)) }
 {
     let mut left = cells;
     let mut ports_left = all;
@@ -396,7 +414,8 @@ fn all_cells(
 fn put_together(alloc: Global, tables: &Tables, cells: Vec<CellParts>) -> Result<Hier, ElabFault>
     requires tables { AreTables tables.now }
     requires heads { heads_of_cells cells.items ≡ map heads_of_frame (frames_of tables.now) }
-    ensures ok { IfOk result (λ h. seen_hier h ≡ put_together (frames_of tables.now) (seen_pass cells.items)) }
+    ensures ok { IfOk result (λ h. seen_hier h
+        ≡ put_together (frames_of tables.now) (seen_pass cells.items)) }
     ensures told { IfErr result (λ e. e ≡ ElabFault.OutOfMemory) }
 {
     match all_ports(alloc, tables, &cells) {
@@ -440,17 +459,19 @@ fn hierarchy_of(alloc: Global, design: &Design, top: &Name) -> Result<Hier, Elab
     hier
 }
 
-/// The hierarchy of a design below its top module (IEEE 1687-2014, ICL: Module, Instance, Parameter): the instances that are reached, each
-/// before those in it, with parameters and ranges as numbers and each signal as single bits. Lists of bits begin at position 0, which
-/// stands nearest to TDO.
+/// The hierarchy of a design below its top module (IEEE 1687-2014, ICL: Module, Instance, Parameter): the
+/// instances that are reached, each before those in it, with parameters and ranges as numbers and each signal
+/// as single bits. Lists of bits begin at position 0, which stands nearest to TDO.
 ///
-/// The first fault that is met is the answer, in two passes over the cells. The first one tells what `first_pass` of `icl_frames` tells. The
-/// second goes over the items of each cell in the order of the text, and in an item from left to right, over signals, values, and the
-/// names of enumerations, interfaces and links. In a signal the order is `NoName`, `WrongKind`, `BadRange`, with the faults of its
-/// numbers where they stand; `WidthDiffers` comes after the whole list of signals or the whole value, and `RowsOverlap` after the rows of a
-/// multiplexer. A binding of a port is `NoName`, `WrongKind`, the faults of its range, `DoubleName` at a bit that is bound already, then the
-/// faults of its signals, then `WidthDiffers`; a port that is bound at some of its bits alone is `WidthDiffers` at the instance, after its
-/// bindings. `OutOfMemory` may come at any point.
+/// The first fault that is met is the answer, in two passes over the cells. The first one tells what
+/// `first_pass` of `icl_frames` tells. The second goes over the items of each cell in the order of the text,
+/// and in an item from left to right, over signals, values, and the names of enumerations, interfaces and
+/// links. In a signal the order is `NoName`, `WrongKind`, `BadRange`, with the faults of its numbers where
+/// they stand; `WidthDiffers` comes after the whole list of signals or the whole value, and `RowsOverlap`
+/// after the rows of a multiplexer. A binding of a port is `NoName`, `WrongKind`, the faults of its range,
+/// `DoubleName` at a bit that is bound already, then the faults of its signals, then `WidthDiffers`; a port
+/// that is bound at some of its bits alone is `WidthDiffers` at the instance, after its bindings.
+/// `OutOfMemory` may come at any point.
 ///
 /// The hierarchy of a design that the grammar gave (`icl_frames::designs_are_written`) is well formed.
 pub fn elaborate(alloc: Global, design: &Design, top: &Name) -> Result<Hier, ElabFault>

@@ -33,7 +33,8 @@ fn port_number(
     name: &SmallText,
 ) -> Result<u32, ElabFault>
     requires { IsHere tables.now here }
-    ensures { Gives same result (port_number (frames_of tables.now) (here_in tables.now here) at name.now.items) }
+    ensures { Gives same result
+        (port_number (frames_of tables.now) (here_in tables.now here) at name.now.items) }
 {
     let m = tables.named(alloc, here, at, name.as_slice())?;
     if !is_port(&m.item.what) {
@@ -51,7 +52,8 @@ pub(crate) fn port_numbers(
     names: &[SmallText],
 ) -> Result<List<u32>, ElabFault>
     requires { IsHere tables.now here }
-    ensures { Gives seen_numbers result (each (port_number (frames_of tables.now) (here_in tables.now here) at) (map bytes_of names.now)) }
+    ensures { Gives seen_numbers result
+        (each (port_number (frames_of tables.now) (here_in tables.now here) at) (map bytes_of names.now)) }
 {
     let mut numbers = List::new(alloc);
     for name in names {
@@ -63,7 +65,8 @@ pub(crate) fn port_numbers(
 
 /// The first scan interface of this name. It is searched for once for each instruction of a link.
 fn interface_named<'a>(members: &[Member<'a>], name: &[u8]) -> Option<Member<'a>>
-    ensures { option_map seen_member result ≡ first_member is_interface (map seen_member members.now) name.now }
+    ensures { option_map seen_member result
+        ≡ first_member is_interface (map seen_member members.now) name.now }
 {
     for m in members {
         if is_interface(&m.item.what) && name == m.item.name.as_slice() {
@@ -91,8 +94,8 @@ fn known_interface(
     }
 }
 
-/// What an instruction of a link selects: an instance and its scan interface. `WrongKind` where the name is no instance's, `NoName` of an
-/// interface that the instance hasn't.
+/// What an instruction of a link selects: an instance and its scan interface. `WrongKind` where the name is
+/// no instance's, `NoName` of an interface that the instance hasn't.
 fn selection(
     alloc: Global,
     tables: &Tables,
@@ -101,7 +104,8 @@ fn selection(
     instr: &LinkInstr,
 ) -> Result<(Name, u32, u32), ElabFault>
     requires { IsHere tables.now here }
-    ensures { Gives seen_selection result (selection (frames_of tables.now) (here_in tables.now here) at (seen_instr instr.now)) }
+    ensures { Gives seen_selection result
+        (selection (frames_of tables.now) (here_in tables.now here) at (seen_instr instr.now)) }
 {
     let m = tables.named(alloc, here, at, instr.cell.as_slice())?;
     let child = tables.inside(here, at, m.item)?;
@@ -120,7 +124,8 @@ pub(crate) fn selections(
     instrs: &[LinkInstr],
 ) -> Result<List<(Name, u32, u32)>, ElabFault>
     requires { IsHere tables.now here }
-    ensures { Gives seen_selections result (each (selection (frames_of tables.now) (here_in tables.now here) at) (map seen_instr instrs.now)) }
+    ensures { Gives seen_selections result
+        (each (selection (frames_of tables.now) (here_in tables.now here) at) (map seen_instr instrs.now)) }
 {
     let mut all = List::new(alloc);
     for instr in instrs {

@@ -1,5 +1,6 @@
 // Which binding binds each bit of a port.
-ghost use Rattle.std.specs.Prelude.{◌≡◌, ℕ, ◌<◌, ◌≤◌, nat_le, nat_lt, ◌==◌, ◌&&◌, ◌||◌, not, cond, [], length, vec_len, Some, None, true, OnOk, ◌+◌};
+ghost use Rattle.std.specs.Prelude.{◌≡◌, ℕ, ◌<◌, ◌≤◌, nat_le, nat_lt, ◌==◌, ◌&&◌, ◌||◌, not, cond, []};
+ghost use Rattle.std.specs.Prelude.{length, vec_len, Some, None, true, OnOk, ◌+◌};
 ghost use Rattle.ij_text.specs.Options.{or_else};
 ghost use Rattle.icl_elab.specs.Marks.{has_marks, mark_at, row_at};
 
@@ -36,7 +37,8 @@ fn grow(numbers: &mut Vec<Option<usize>>, len: usize) -> Result<(), OutOfMemory>
 /// Notes a number at the positions from `low` on that are free, so many of them.
 fn fill(numbers: &mut [Option<usize>], low: usize, count: usize, number: usize)
     requires { low + count ≤ length numbers.old }
-    ensures { (pos : ℕ) → mark_at numbers.new pos ≡ or_else (mark_at numbers.old pos) (cond (nat_le low pos && nat_lt pos (low + count)) (Some number) None) }
+    ensures { (pos : ℕ) → mark_at numbers.new pos ≡ or_else (mark_at numbers.old pos)
+        (cond (nat_le low pos && nat_lt pos (low + count)) (Some number) None) }
 {
     for k in 0..count {
         let pos = low + k;
@@ -76,7 +78,8 @@ impl Row {
 
     /// Notes the number of a binding at its positions, where none is noted.
     pub(crate) fn note(&mut self, s: Stretch, number: usize) -> Result<(), OutOfMemory>
-        ensures bits { OnOk result ((pos : ℕ) → mark_at self.new pos ≡ or_else (mark_at self.old pos) (cond (nat_le s.low pos && nat_le pos s.high) (Some number) None)) }
+        ensures bits { OnOk result ((pos : ℕ) → mark_at self.new pos ≡ or_else (mark_at self.old pos)
+            (cond (nat_le s.low pos && nat_le pos s.high) (Some number) None)) }
         ensures some { OnOk result (has_marks self.new ≡ true) }
     {
         let low = s.low as usize;
@@ -108,8 +111,11 @@ pub(crate) fn note(
     s: Stretch,
     number: usize,
 ) -> Result<(), OutOfMemory>
-    ensures bits { OnOk result ((p pos : ℕ) → mark_at (row_at rows.new.items p) pos ≡ or_else (mark_at (row_at rows.old.items p) pos) (cond (part == p && (nat_le s.low pos && nat_le pos s.high)) (Some number) None)) }
-    ensures parts { OnOk result ((p : ℕ) → has_marks (row_at rows.new.items p) ≡ (has_marks (row_at rows.old.items p) || part == p)) }
+    ensures bits { OnOk result ((p pos : ℕ)
+        → mark_at (row_at rows.new.items p) pos ≡ or_else (mark_at (row_at rows.old.items p) pos)
+        (cond (part == p && (nat_le s.low pos && nat_le pos s.high)) (Some number) None)) }
+    ensures parts { OnOk result ((p : ℕ)
+        → has_marks (row_at rows.new.items p) ≡ (has_marks (row_at rows.old.items p) || part == p)) }
 {
     let i = part as usize;
     grow_rows(alloc, rows, i + 1)?;

@@ -21,7 +21,8 @@ use std::alloc::Global;
 /// What a part is, the words that it refers to, and what an instance binds.
 #[derive(Drop)]
 pub struct Found {
-    /// What it is: a port, a register, a multiplexer, an instance, an alias, a scan interface or an access link.
+    /// What it is: a port, a register, a multiplexer, an instance, an alias, a scan interface or an access
+    /// link.
     pub body: Body,
     /// The words that it refers to, each in the part's width.
     pub words: List<(Name, Tern)>,
@@ -51,8 +52,8 @@ fn plain(alloc: Global, body: Body) -> Found
     }
 }
 
-/// What an instance is, which is that cell, and what it binds (IEEE 1687-2014, ICL: `Instance`). `WidthDiffers` at the instance where a port is bound at
-/// some of its bits alone.
+/// What an instance is, which is that cell, and what it binds (IEEE 1687-2014, ICL: `Instance`).
+/// `WidthDiffers` at the instance where a port is bound at some of its bits alone.
 fn instance_found(
     alloc: Global,
     tables: &Tables,
@@ -63,7 +64,8 @@ fn instance_found(
 ) -> Result<Found, ElabFault>
     requires here { IsHere tables.now here }
     requires child { IsHere tables.now child }
-    ensures { Gives seen_found result (instance_found (frames_of tables.now) (here_in tables.now here) at (map seen_bind binds.now) (here_in tables.now child)) }
+    ensures { Gives seen_found result (instance_found (frames_of tables.now) (here_in tables.now here) at
+        (map seen_bind binds.now) (here_in tables.now child)) }
 {
     let bound = bind_all(alloc, tables, here, child, binds)?;
     if !bound.are_whole(tables.members(child)) {
@@ -80,7 +82,8 @@ fn instance_found(
 #[tactic(auto, unfolding(crate::specs::FoundParts::part_found))]
 pub fn part_found(alloc: Global, tables: &Tables, here: u32, m: &Member) -> Result<Found, ElabFault>
     requires { IsHere tables.now here }
-    ensures { Gives seen_found result (part_found (frames_of tables.now) (here_in tables.now here) (seen_member m.now)) }
+    ensures { Gives seen_found result
+        (part_found (frames_of tables.now) (here_in tables.now here) (seen_member m.now)) }
 {
     let at = m.item.at;
     match &m.item.what {

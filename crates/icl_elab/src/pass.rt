@@ -3,7 +3,8 @@ ghost use Rattle.std.specs.Prelude.{◌≡◌, [], map, IfOk, IfErr, OnOk};
 ghost use Rattle.icl_declarations.specs.Faults.{Gives, each};
 ghost use Rattle.icl_elab.specs.SecondPass.{cell_found, second_pass};
 ghost use Rattle.icl_elab.specs.FoundParts.{part_found};
-ghost use Rattle.icl_elab.specs.SeenCells.{head_of_member, head_of_placed, heads_of_cells, heads_of_frame, seen_cell_parts, seen_pass, seen_placed};
+ghost use Rattle.icl_elab.specs.SeenCells.{head_of_member, head_of_placed, heads_of_cells, heads_of_frame};
+ghost use Rattle.icl_elab.specs.SeenCells.{seen_cell_parts, seen_pass, seen_placed};
 ghost use Rattle.icl_elab.specs.SeenParts.{seen_found};
 ghost use Rattle.icl_references.specs.Tables.{AreTables, IsHere, frames_of, here_in, seen_member};
 
@@ -67,8 +68,10 @@ fn add_parts(
 ) -> Result<(), ElabFault>
     requires here { IsHere tables.now here }
     requires none { parts.old.items ≡ [] }
-    ensures heads { OnOk result (map head_of_placed parts.new.items ≡ map head_of_member (map seen_member members.now)) }
-    ensures gives { Gives (λ u. map seen_placed parts.new.items) result (each (part_found (frames_of tables.now) (here_in tables.now here)) (map seen_member members.now)) }
+    ensures heads { OnOk result
+        (map head_of_placed parts.new.items ≡ map head_of_member (map seen_member members.now)) }
+    ensures gives { Gives (λ u. map seen_placed parts.new.items) result
+        (each (part_found (frames_of tables.now) (here_in tables.now here)) (map seen_member members.now)) }
 {
     for m in members {
         let found = part_found(alloc, tables, here, m)?;
@@ -86,8 +89,10 @@ fn parts_found(
     members: &[Member],
 ) -> Result<Vec<Placed>, ElabFault>
     requires { IsHere tables.now here }
-    ensures heads { IfOk result (λ parts. map head_of_placed parts.items ≡ map head_of_member (map seen_member members.now)) }
-    ensures gives { Gives (λ parts. map seen_placed parts.items) result (each (part_found (frames_of tables.now) (here_in tables.now here)) (map seen_member members.now)) }
+    ensures heads { IfOk result
+        (λ parts. map head_of_placed parts.items ≡ map head_of_member (map seen_member members.now)) }
+    ensures gives { Gives (λ parts. map seen_placed parts.items) result
+        (each (part_found (frames_of tables.now) (here_in tables.now here)) (map seen_member members.now)) }
 {
     let mut parts = Vec::new(alloc);
     match add_parts(alloc, tables, here, members, &mut parts) {
@@ -103,8 +108,10 @@ fn parts_found(
 #[tactic(auto, unfolding(crate::specs::SecondPass::cell_found))]
 fn cell_found(alloc: Global, tables: &Tables, here: u32) -> Result<CellParts, ElabFault>
     requires { IsHere tables.now here }
-    ensures heads { IfOk result (λ c. map head_of_placed c.parts.items ≡ heads_of_frame (here_in tables.now here).frame) }
-    ensures gives { Gives seen_cell_parts result (cell_found (frames_of tables.now) (here_in tables.now here)) }
+    ensures heads { IfOk result
+        (λ c. map head_of_placed c.parts.items ≡ heads_of_frame (here_in tables.now here).frame) }
+    ensures gives { Gives seen_cell_parts result
+        (cell_found (frames_of tables.now) (here_in tables.now here)) }
 {
     let parts = parts_found(alloc, tables, here, tables.members(here))?;
     Ok(CellParts { parts })
@@ -128,7 +135,8 @@ fn add_cells(alloc: Global, tables: &Tables, cells: &mut Vec<CellParts>) -> Resu
 /// What the parts of the cells are, cell by cell.
 pub(crate) fn second_pass(alloc: Global, tables: &Tables) -> Result<Vec<CellParts>, ElabFault>
     requires { AreTables tables.now }
-    ensures heads { IfOk result (λ cells. heads_of_cells cells.items ≡ map heads_of_frame (frames_of tables.now)) }
+    ensures heads { IfOk result
+        (λ cells. heads_of_cells cells.items ≡ map heads_of_frame (frames_of tables.now)) }
     ensures gives { Gives (λ cells. seen_pass cells.items) result (second_pass (frames_of tables.now)) }
 {
     let mut cells = Vec::new(alloc);

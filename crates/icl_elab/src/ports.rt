@@ -36,7 +36,8 @@ fn first_scan(
     sigs: &[Sig],
 ) -> Result<Ref, ElabFault>
     requires { IsHere tables.now here }
-    ensures { Gives same result (first_scan (frames_of tables.now) (here_in tables.now here) at (map seen_sig sigs.now)) }
+    ensures { Gives same result
+        (first_scan (frames_of tables.now) (here_in tables.now here) at (map seen_sig sigs.now)) }
 {
     match sigs {
         [sig, ..] => scan_signal(alloc, tables, here, sig),
@@ -55,7 +56,8 @@ fn source_role(
     sigs: &[Sig],
 ) -> Result<Body, ElabFault>
     requires { IsHere tables.now here }
-    ensures { Gives seen_body result (source_role (frames_of tables.now) (here_in tables.now here) kind (seen_member m.now) (seen_body body) (map seen_sig sigs.now)) }
+    ensures { Gives seen_body result (source_role (frames_of tables.now) (here_in tables.now here) kind
+        (seen_member m.now) (seen_body body) (map seen_sig sigs.now)) }
 {
     match kind {
         PortKind::ScanOutPort => {
@@ -94,7 +96,8 @@ fn with_words(
     name: &SmallText,
 ) -> Result<Resolved, ElabFault>
     requires { IsHere tables.now here }
-    ensures { Gives seen_resolved result (alias_prop (frames_of tables.now) (here_in tables.now here) (seen_member m.now) (found (seen_body body)) (ARefEnum name.now.items)) }
+    ensures { Gives seen_resolved result (alias_prop (frames_of tables.now) (here_in tables.now here)
+        (seen_member m.now) (found (seen_body body)) (ARefEnum name.now.items)) }
 {
     match words_named(alloc, tables.frame(here), m, name) {
         Ok(words) => Ok(Resolved { body, words }),
@@ -117,7 +120,8 @@ fn port_prop(
     prop: &Prop,
 ) -> Result<Resolved, ElabFault>
     requires { IsHere tables.now here }
-    ensures { Gives seen_resolved result (port_prop (frames_of tables.now) (here_in tables.now here) kind (seen_member m.now) (seen_resolved port) (seen_prop prop.now)) }
+    ensures { Gives seen_resolved result (port_prop (frames_of tables.now) (here_in tables.now here) kind
+        (seen_member m.now) (seen_resolved port) (seen_prop prop.now)) }
 {
     let Resolved { body, words } = port;
     match prop {
@@ -161,7 +165,9 @@ pub(crate) fn port_found(
     props: &[Prop],
 ) -> Result<Resolved, ElabFault>
     requires { IsHere tables.now here }
-    ensures { Gives seen_resolved result (over (port_prop (frames_of tables.now) (here_in tables.now here) kind (seen_member m.now)) (found (port_role (frames_of tables.now) (here_in tables.now here) kind)) (map seen_prop props.now)) }
+    ensures { Gives seen_resolved result
+        (over (port_prop (frames_of tables.now) (here_in tables.now here) kind (seen_member m.now))
+        (found (port_role (frames_of tables.now) (here_in tables.now here) kind)) (map seen_prop props.now)) }
 {
     let mut port = Resolved {
         body: port_role(kind),
@@ -184,7 +190,8 @@ fn alias_prop(
     prop: &Prop,
 ) -> Result<Resolved, ElabFault>
     requires { IsHere tables.now here }
-    ensures { Gives seen_resolved result (alias_prop (frames_of tables.now) (here_in tables.now here) (seen_member m.now) (seen_resolved alias) (seen_prop prop.now)) }
+    ensures { Gives seen_resolved result (alias_prop (frames_of tables.now) (here_in tables.now here)
+        (seen_member m.now) (seen_resolved alias) (seen_prop prop.now)) }
 {
     let Resolved { body, words } = alias;
     match prop {
@@ -206,7 +213,8 @@ fn with_props(
     props: &[Prop],
 ) -> Result<Resolved, ElabFault>
     requires { IsHere tables.now here }
-    ensures { Gives seen_resolved result (over (alias_prop (frames_of tables.now) (here_in tables.now here) (seen_member m.now)) (seen_resolved start) (map seen_prop props.now)) }
+    ensures { Gives seen_resolved result (over (alias_prop (frames_of tables.now) (here_in tables.now here)
+        (seen_member m.now)) (seen_resolved start) (map seen_prop props.now)) }
 {
     let mut alias = start;
     for prop in props {
@@ -225,7 +233,8 @@ pub(crate) fn alias_found(
     props: &[Prop],
 ) -> Result<Resolved, ElabFault>
     requires { IsHere tables.now here }
-    ensures { Gives seen_resolved result (alias_answer (frames_of tables.now) (here_in tables.now here) (seen_member m.now) (map seen_sig sigs.now) (map seen_prop props.now)) }
+    ensures { Gives seen_resolved result (alias_answer (frames_of tables.now) (here_in tables.now here)
+        (seen_member m.now) (map seen_sig sigs.now) (map seen_prop props.now)) }
 {
     let wide = width_of(m.bounds)?;
     let refs = alias_signals(alloc, tables, here, m.item.at, wide, sigs)?;

@@ -36,7 +36,9 @@ fn add_prop(
     prop: &Prop,
 ) -> Result<(), ElabFault>
     requires { IsHere tables.now here }
-    ensures { Gives (λ u. seen_said (frames_of tables.now) (here_in tables.now here) said.new) result (register_prop (frames_of tables.now) (here_in tables.now here) (seen_member m.now) (seen_said (frames_of tables.now) (here_in tables.now here) said.old) (seen_prop prop.now)) }
+    ensures { Gives (λ u. seen_said (frames_of tables.now) (here_in tables.now here) said.new) result
+        (register_prop (frames_of tables.now) (here_in tables.now here) (seen_member m.now)
+        (seen_said (frames_of tables.now) (here_in tables.now here) said.old) (seen_prop prop.now)) }
 {
     let at = m.item.at;
     match prop {
@@ -72,7 +74,9 @@ fn register_prop(
     prop: &Prop,
 ) -> Result<RegisterParts, ElabFault>
     requires { IsHere tables.now here }
-    ensures { Gives (seen_said (frames_of tables.now) (here_in tables.now here)) result (register_prop (frames_of tables.now) (here_in tables.now here) (seen_member m.now) (seen_said (frames_of tables.now) (here_in tables.now here) said) (seen_prop prop.now)) }
+    ensures { Gives (seen_said (frames_of tables.now) (here_in tables.now here)) result
+        (register_prop (frames_of tables.now) (here_in tables.now here) (seen_member m.now)
+        (seen_said (frames_of tables.now) (here_in tables.now here) said) (seen_prop prop.now)) }
 {
     let mut said = said;
     match add_prop(alloc, tables, here, m, &mut said, prop) {
@@ -93,7 +97,9 @@ fn register_props(
     props: &[Prop],
 ) -> Result<RegisterParts, ElabFault>
     requires { IsHere tables.now here }
-    ensures { Gives (seen_said (frames_of tables.now) (here_in tables.now here)) result (over (register_prop (frames_of tables.now) (here_in tables.now here) (seen_member m.now)) (nothing_said (frames_of tables.now) (here_in tables.now here)) (map seen_prop props.now)) }
+    ensures { Gives (seen_said (frames_of tables.now) (here_in tables.now here)) result
+        (over (register_prop (frames_of tables.now) (here_in tables.now here) (seen_member m.now))
+        (nothing_said (frames_of tables.now) (here_in tables.now here)) (map seen_prop props.now)) }
 {
     let mut said = RegisterParts {
         scan: None,
@@ -116,7 +122,8 @@ pub(crate) fn register_found(
     props: &[Prop],
 ) -> Result<Resolved, ElabFault>
     requires { IsHere tables.now here }
-    ensures { Gives seen_resolved result (register_answer (frames_of tables.now) (here_in tables.now here) (seen_member m.now) (map seen_prop props.now)) }
+    ensures { Gives seen_resolved result (register_answer (frames_of tables.now) (here_in tables.now here)
+        (seen_member m.now) (map seen_prop props.now)) }
 {
     let said = register_props(alloc, tables, here, m, props)?;
     Ok(Resolved {

@@ -22,7 +22,8 @@ use std::alloc::Global;
 
 /// The enumeration of this name. It is searched for once for each reference.
 fn enum_named<'a>(items: &'a [Item], name: &[u8]) -> Option<&'a Item>
-    ensures { option_map (λ item. seen_item item.now) result ≡ find (λ item. is_enum item.what && bytes_eq name.now item.name) (map seen_item items.now) }
+    ensures { option_map (λ item. seen_item item.now) result
+        ≡ find (λ item. is_enum item.what && bytes_eq name.now item.name) (map seen_item items.now) }
 {
     for item in items {
         if is_enum(&item.what) && name == item.name.as_slice() {
@@ -49,7 +50,8 @@ fn known_enum<'a>(
     name: &SmallText,
     item: Option<&'a Item>,
 ) -> Result<&'a [EnumWord], ElabFault>
-    ensures { Gives (λ words. map seen_enum_word words.now) result (known_enum at name.now.items (option_map (λ item. seen_item item.now) item.entry)) }
+    ensures { Gives (λ words. map seen_enum_word words.now) result
+        (known_enum at name.now.items (option_map (λ item. seen_item item.now) item.entry)) }
 {
     match item {
         Some(item) => Ok(words_in(&item.what)),
@@ -83,7 +85,8 @@ fn words_of(
     wide: u32,
     words: &[EnumWord],
 ) -> Result<List<(Name, Tern)>, ElabFault>
-    ensures { Gives seen_words result (each (word_of (seen_table params.now) at wide) (map seen_enum_word words.now)) }
+    ensures { Gives seen_words result
+        (each (word_of (seen_table params.now) at wide) (map seen_enum_word words.now)) }
 {
     let mut all = List::new(alloc);
     for word in words {
@@ -93,7 +96,8 @@ fn words_of(
     Ok(all)
 }
 
-/// The words of the enumeration that a part refers to (IEEE 1687-2014, ICL: `RefEnum`), each in the width of the part.
+/// The words of the enumeration that a part refers to (IEEE 1687-2014, ICL: `RefEnum`), each in the width of
+/// the part.
 #[tactic(auto, unfolding(crate::specs::FoundParts::words_named))]
 pub(crate) fn words_named(
     alloc: Global,
@@ -101,7 +105,8 @@ pub(crate) fn words_named(
     m: &Member,
     name: &SmallText,
 ) -> Result<List<(Name, Tern)>, ElabFault>
-    ensures { Gives seen_words result (words_named (seen_frame frame.now) (seen_member m.now) name.now.items) }
+    ensures { Gives seen_words result
+        (words_named (seen_frame frame.now) (seen_member m.now) name.now.items) }
 {
     let item = enum_named(frame.block.items.as_slice(), name.as_slice());
     let words = known_enum(alloc, m.item.at, name, item)?;

@@ -5,7 +5,8 @@ ghost use Rattle.icl_lexer.specs.Values.{SeenExpr};
 ghost use Rattle.icl_lexer.specs.Grammar.{too_deep, sum_sign, product_sign, with_operand};
 ghost use Rattle.icl_lexer.specs.Views.{seen_expr};
 ghost use Rattle.icl_expressions.specs.Seen.{seen_read, seen_counting, seen_sign, Gives};
-ghost use Rattle.icl_expressions.specs.Reading.{read_put, read_operand, read_factor, read_term, read_sum, read_parentheses, read_expr, joined};
+ghost use Rattle.icl_expressions.specs.Reading.{read_put, read_operand, read_factor, read_term, read_sum};
+ghost use Rattle.icl_expressions.specs.Reading.{read_parentheses, read_expr, joined};
 
 use crate::leaves::read_leaf;
 use crate::parts::Part;
@@ -18,8 +19,8 @@ use icl_lexer::{Cursor, Expr, Limit};
 use ij_bits::beside;
 use std::alloc::Global;
 
-/// An expression; how many operators its outermost expression has up to here; and whether it is a sized number, after
-/// which no operator may stand.
+/// An expression; how many operators its outermost expression has up to here; and whether it is a sized
+/// number, after which no operator may stand.
 #[derive(Drop)]
 pub(crate) struct Counting {
     pub expr: Expr,
@@ -75,7 +76,8 @@ fn in_parentheses<'a>(
     requires { used ≤ 256 }
     ensures bounded { IfOk result (λ r. r.value.used ≤ 256) }
     ensures shorter { IfOk result (λ r. length r.rest < length tokens.entry) }
-    ensures gives { Gives (seen_read seen_counting) result (read_parentheses (read_sum depth) used tokens.entry) }
+    ensures gives { Gives (seen_read seen_counting) result
+        (read_parentheses (read_sum depth) used tokens.entry) }
 {
     let open = read_mark(tokens, b'(')?;
     let inner = sum(alloc, open.rest, depth, used)?;
@@ -122,7 +124,9 @@ fn with_factor<'a>(
     requires { left.value.used ≤ 256 }
     ensures bounded { IfOk result (λ r. r.value.used ≤ 256) }
     ensures shorter { IfOk result (λ r. length r.rest < length left.entry.rest) }
-    ensures gives { Gives (seen_read seen_counting) result (read_put (read_operand (read_factor depth false) product_sign (seen_counting left.entry.value)) with_operand (seen_counting left.entry.value) left.entry.rest) }
+    ensures gives { Gives (seen_read seen_counting) result
+        (read_put (read_operand (read_factor depth false) product_sign (seen_counting left.entry.value))
+        with_operand (seen_counting left.entry.value) left.entry.rest) }
 {
     let sign = read_product_sign(left.rest, left.value.used, left.value.lone);
     let (left, sign) = beside(left.value, sign)?;
@@ -162,7 +166,9 @@ fn with_product<'a>(
     requires { left.value.used ≤ 256 }
     ensures bounded { IfOk result (λ r. r.value.used ≤ 256) }
     ensures shorter { IfOk result (λ r. length r.rest < length left.entry.rest) }
-    ensures gives { Gives (seen_read seen_counting) result (read_put (read_operand (read_term depth false) sum_sign (seen_counting left.entry.value)) with_operand (seen_counting left.entry.value) left.entry.rest) }
+    ensures gives { Gives (seen_read seen_counting) result
+        (read_put (read_operand (read_term depth false) sum_sign (seen_counting left.entry.value))
+        with_operand (seen_counting left.entry.value) left.entry.rest) }
 {
     let sign = read_sum_sign(left.rest, left.value.used, left.value.lone);
     let (left, sign) = beside(left.value, sign)?;
@@ -180,7 +186,8 @@ fn joined<'a>(
 ) -> Result<Parsed<'a, Counting>, Stop>
     ensures counted { IfOk result (λ r. r.value.used ≡ right.entry.value.used) }
     ensures rest { IfOk result (λ r. length r.rest ≡ length right.entry.rest) }
-    ensures gives { Gives (seen_read seen_counting) result (joined (seen_counting left) (seen_sign sign) (seen_counting right.entry.value) right.entry.rest) }
+    ensures gives { Gives (seen_read seen_counting) result
+        (joined (seen_counting left) (seen_sign sign) (seen_counting right.entry.value) right.entry.rest) }
 {
     let rest = right.rest;
     let right = right.value;

@@ -1,5 +1,6 @@
 // The tokens that are expressions by themselves.
-ghost use Rattle.std.specs.Prelude.{◌≡◌, ◌-◌, ◌<◌, ◌≤◌, ◌+◌, ◌*◌, ◌==◌, cond, length, slice_range, IfErr, IfOk, Option, true, Some, None};
+ghost use Rattle.std.specs.Prelude.{◌≡◌, ◌-◌, ◌<◌, ◌≤◌, ◌+◌, ◌*◌, ◌==◌, cond, length, slice_range, IfErr};
+ghost use Rattle.std.specs.Prelude.{IfOk, Option, true, Some, None};
 ghost use Rattle.std.specs.Option.{option_map};
 ghost use Rattle.ij_text.specs.Options.{same};
 ghost use Rattle.icl_lexer.specs.Lexemes.{tok};
@@ -74,7 +75,8 @@ fn sized_value(
     alone: bool,
     used: u32,
 ) -> Result<Option<Counting>, OutOfMemory>
-    ensures { IfOk result (λ o. option_map seen_counting o ≡ cond alone (Some (record { formula = ASized text.now; used = used; lone = true })) None) }
+    ensures { IfOk result (λ o. option_map seen_counting o
+        ≡ cond alone (Some (record { formula = ASized text.now; used = used; lone = true })) None) }
 {
     if !alone {
         return Ok(None);

@@ -4,7 +4,8 @@ ghost use Rattle.ij_text.specs.Symbol.{appended};
 ghost use Rattle.icl_lexer.specs.Values.{SeenExpr, SeenSig};
 ghost use Rattle.icl_lexer.specs.Views.{bytes_of, seen_expr, seen_few, seen_sig};
 ghost use Rattle.icl_expressions.specs.Seen.{seen_read, Gives};
-ghost use Rattle.icl_expressions.specs.Reading.{Reading, Shrinks, read_put, read_after, more_parted, read_parted, read_name, read_value, read_sig};
+ghost use Rattle.icl_expressions.specs.Reading.{Reading, Shrinks, read_put, read_after, more_parted};
+ghost use Rattle.icl_expressions.specs.Reading.{read_parted, read_name, read_value, read_sig};
 
 use crate::reading::{Parsed, begins_mark, read_mark, read_name};
 use crate::signals::{read_sig, read_value};
@@ -35,7 +36,8 @@ fn with_next<'a, T: Part + Drop>(
     mark: u8,
 ) -> Result<Parsed<'a, Few<T>>, Stop>
     ensures shorter { IfOk result (λ r. length r.rest < length parts.entry.rest) }
-    ensures gives { Gives (seen_read (seen_few T.view)) result (read_put (read_after mark T.reader) appended (seen_few T.view parts.entry.value) parts.entry.rest) }
+    ensures gives { Gives (seen_read (seen_few T.view)) result
+        (read_put (read_after mark T.reader) appended (seen_few T.view parts.entry.value) parts.entry.rest) }
 {
     let at = read_mark(parts.rest, mark)?;
     let next = T::read(alloc, at.rest)?;
@@ -53,7 +55,8 @@ pub(crate) fn read_following<'a, T: Part + Drop>(
 ) -> Result<Parsed<'a, Few<T>>, Stop>
     requires { Shrinks T.reader }
     ensures shorter { IfOk result (λ r. length r.rest ≤ length first.entry.rest) }
-    ensures gives { Gives (seen_read (seen_few T.view)) result (more_parted mark T.reader (T.view first.entry.value ∷ []) first.entry.rest) }
+    ensures gives { Gives (seen_read (seen_few T.view)) result
+        (more_parted mark T.reader (T.view first.entry.value ∷ []) first.entry.rest) }
 {
     let mut parts = Parsed {
         value: Few::one(first.value),

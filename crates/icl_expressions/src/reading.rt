@@ -21,7 +21,8 @@ pub struct Parsed<'a, X> {
     pub rest: Cursor<'a>,
 }
 
-/// A list with one more value at its end, and the tokens after the value. The first value makes room for itself alone.
+/// A list with one more value at its end, and the tokens after the value. The first value makes room for
+/// itself alone.
 pub fn pushed<'a, X: Drop>(
     list: List<X>,
     read: Parsed<'a, X>,

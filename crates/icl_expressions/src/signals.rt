@@ -5,7 +5,10 @@ ghost use Rattle.ij_bits.specs.Room.{seen_list};
 ghost use Rattle.icl_lexer.specs.Views.{bytes_of, seen_expr, seen_few, seen_range, seen_sig};
 ghost use Rattle.icl_expressions.specs.Seen.{seen_read, Gives};
 ghost use Rattle.icl_expressions.specs.SeenParts.{seen_located};
-ghost use Rattle.icl_expressions.specs.Reading.{read_value, read_expr_after, read_maybe, read_range, read_number, read_path_after, read_named_after, read_named_sig, read_plain_sig, read_inverted, read_sig, read_sigs};
+ghost use Rattle.icl_expressions.specs.Reading.{read_value, read_expr_after, read_maybe, read_range};
+ghost use Rattle.icl_expressions.specs.Reading.{read_number, read_path_after, read_named_after};
+ghost use Rattle.icl_expressions.specs.Reading.{read_named_sig, read_plain_sig, read_inverted, read_sig};
+ghost use Rattle.icl_expressions.specs.Reading.{read_sigs};
 
 use crate::leaves::number_value;
 use crate::parts::{Part, read_following, read_parted};
@@ -50,7 +53,8 @@ pub fn maybe_expr_after<'a>(
     mark: u8,
 ) -> Result<Parsed<'a, Option<Expr>>, Stop>
     ensures shorter { IfOk result (λ r. length r.rest ≤ length tokens.entry) }
-    ensures gives { Gives (seen_read (option_map seen_expr)) result (read_maybe mark (read_expr_after mark) tokens.entry) }
+    ensures gives { Gives (seen_read (option_map seen_expr)) result
+        (read_maybe mark (read_expr_after mark) tokens.entry) }
 {
     if !begins_mark(&tokens, mark) {
         return Ok(Parsed {
@@ -161,7 +165,8 @@ fn named_after<'a>(
     tokens: Cursor<'a>,
 ) -> Result<Parsed<'a, Located>, Stop>
     ensures shorter { IfOk result (λ r. length r.rest ≤ length tokens.entry) }
-    ensures gives { Gives (seen_read seen_located) result (read_named_after (record { at = first.now.at; name = first.now.text.now }) tokens.entry) }
+    ensures gives { Gives (seen_read seen_located) result
+        (read_named_after (record { at = first.now.at; name = first.now.text.now }) tokens.entry) }
 {
     let path = read_path(alloc, SmallText::of(alloc, first.text)?, tokens)?;
     let range = maybe_range(alloc, path.rest)?;

@@ -81,7 +81,8 @@ pub(crate) fn begins_product_sign(tokens: &Cursor) -> bool
     }
 }
 
-/// The operator that is the next token, if there is one. An expression has at most 256, and none after a sized number.
+/// The operator that is the next token, if there is one. An expression has at most 256, and none after a
+/// sized number.
 #[tactic(auto, using(crate::proofs::Operators::operator_steps))]
 fn operator<'a>(
     sign: Option<SignAt>,
@@ -92,7 +93,8 @@ fn operator<'a>(
 ) -> Result<Parsed<'a, SignAt>, Stop>
     ensures shorter { IfOk result (λ r. length r.rest ≡ length rest.entry) }
     ensures bounded { IfOk result (λ r. used < 256) }
-    ensures gives { Gives (seen_read seen_sign) result (operator_of (256 - used) lone (option_map seen_sign sign) left rest.entry) }
+    ensures gives { Gives (seen_read seen_sign) result
+        (operator_of (256 - used) lone (option_map seen_sign sign) left rest.entry) }
 {
     match sign {
         None => Err(Stop::At(left, None)),
@@ -111,7 +113,8 @@ pub(crate) fn read_sum_sign<'a>(
 ) -> Result<Parsed<'a, SignAt>, Stop>
     ensures shorter { IfOk result (λ r. length r.rest < length tokens.entry) }
     ensures bounded { IfOk result (λ r. used < 256) }
-    ensures gives { Gives (seen_read seen_sign) result (read_operator (256 - used) lone sum_sign tokens.entry) }
+    ensures gives { Gives (seen_read seen_sign) result
+        (read_operator (256 - used) lone sum_sign tokens.entry) }
 {
     let left = tokens.len();
     match tokens.next() {
@@ -129,7 +132,8 @@ pub(crate) fn read_product_sign<'a>(
 ) -> Result<Parsed<'a, SignAt>, Stop>
     ensures shorter { IfOk result (λ r. length r.rest < length tokens.entry) }
     ensures bounded { IfOk result (λ r. used < 256) }
-    ensures gives { Gives (seen_read seen_sign) result (read_operator (256 - used) lone product_sign tokens.entry) }
+    ensures gives { Gives (seen_read seen_sign) result
+        (read_operator (256 - used) lone product_sign tokens.entry) }
 {
     let left = tokens.len();
     match tokens.next() {

@@ -1,5 +1,6 @@
 -- What lists contain, and what holds of all of it.
-use Rattle.std.proofs.Common.{◌≡◌, Bool, true, false, cond, List, [], ◌∷◌, find, Option, Some, None, ap, subst, Contains}
+use Rattle.std.proofs.Common.{◌≡◌, Bool, true, false, cond, List, [], ◌∷◌, find, Option, Some, None, ap}
+use Rattle.std.proofs.Common.{subst, Contains}
 use Rattle.std.specs.List.{AllByRecursion}
 use Rattle.std.proofs.lemmas.List.Elements.{All-from_recursion, All-contains}
 use Rattle.ij_bits.proofs.Contained.{first_in, later_in}
@@ -17,6 +18,7 @@ find_in {A} p (x ∷ xs) y h = by_test (p x) h (λ g. find_in p xs y g)
     value d None = d
     value d (Some z) = z
 
-    by_test : (b : Bool) → cond b (Some x) (find p xs) ≡ Some y → (find p xs ≡ Some y → Contains xs y) → Contains (x ∷ xs) y
+    by_test : (b : Bool) → cond b (Some x) (find p xs) ≡ Some y
+        → (find p xs ≡ Some y → Contains xs y) → Contains (x ∷ xs) y
     by_test true g again = subst (λ (z : A). Contains (x ∷ xs) z) (ap (value x) g) (first_in x xs)
     by_test false g again = later_in x y xs (again g)

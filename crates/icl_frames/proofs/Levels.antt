@@ -1,5 +1,6 @@
 -- One level of the cells.
-use Rattle.std.proofs.Common.{◌≡◌, ◌<◌, ◌-◌, ◌++◌, ℕ, zero, suc, Bool, true, false, List, [], ◌∷◌, length, Option, Some, None, Ok, Err, refl, sym, ap, ◌∙◌, arith}
+use Rattle.std.proofs.Common.{◌≡◌, ◌<◌, ◌-◌, ◌++◌, ℕ, zero, suc, Bool, true, false, List, [], ◌∷◌, length}
+use Rattle.std.proofs.Common.{Option, Some, None, Ok, Err, refl, sym, ap, ◌∙◌, arith}
 use Rattle.std.specs.Prelude.{nat_le}
 use Rattle.ij_text.specs.declared.Which.TheVariants.{Hierarchy, Cells}
 use Rattle.icl_lexer.specs.Values.{SeenModule}
@@ -7,44 +8,61 @@ use Rattle.icl_declarations.specs.Faults.{Answer, Fault, Fails, ◌>>=◌, refus
 use Rattle.icl_frames.specs.FirstPass.{Request, Progress, Entered, enter_one, enter}
 use Rattle.icl_frames.specs.SeenFrames.{Stepped, with_cell}
 
-pub no_level : (levels : ℕ) (blocks : List SeenModule) (above : List (List ℕ)) (parent : Option ℕ) (s : Progress) (r : Request) → levels ≡ 0 → enter levels blocks above parent s r ≡ Err (Limit Hierarchy 64)
+pub no_level : (levels : ℕ) (blocks : List SeenModule) (above : List (List ℕ)) (parent : Option ℕ)
+    (s : Progress) (r : Request) → levels ≡ 0
+    → enter levels blocks above parent s r ≡ Err (Limit Hierarchy 64)
 unfolding enter
 no_level zero blocks above parent s r e = refl
 no_level (suc levels) blocks above parent s r e = absurd (omega (arith, e))
 
 -- below a cell
 abbrev pub below : ℕ → List SeenModule → List (List ℕ) → ℕ → Answer Stepped → Answer Progress
-below levels blocks inside cell a = a >>= λ w. over (enter levels blocks inside (Some cell)) w.progress w.requests
+below levels blocks inside cell a =
+    a >>= λ w. over (enter levels blocks inside (Some cell)) w.progress w.requests
 
-one_level : (levels : ℕ) (blocks : List SeenModule) (above : List (List ℕ)) (parent : Option ℕ) (s : Progress) (r : Request)
-    → enter (suc levels) blocks above parent s r ≡ below levels blocks (r.block.name ∷ above) (length s.frames) (with_cell blocks (r.block.name ∷ above) parent s r)
+one_level : (levels : ℕ) (blocks : List SeenModule) (above : List (List ℕ))
+    (parent : Option ℕ) (s : Progress) (r : Request)
+    → enter (suc levels) blocks above parent s r ≡ below levels blocks (r.block.name ∷ above)
+    (length s.frames) (with_cell blocks (r.block.name ∷ above) parent s r)
 unfolding enter with_cell
 one_level levels blocks above parent s r = by_room (nat_le 8192 (length s.frames))
   where
     next : Entered → Answer Progress
-    next e = over (enter levels blocks (r.block.name ∷ above) (Some (length s.frames))) (record { frames = s.frames ++ e.frame ∷ []; counts = e.counts }) e.requests
+    next e = over (enter levels blocks (r.block.name ∷ above) (Some (length s.frames)))
+        (record { frames = s.frames ++ e.frame ∷ []; counts = e.counts }) e.requests
 
     step : Entered → Answer Stepped
-    step e = Ok (record { progress = record { frames = s.frames ++ e.frame ∷ []; counts = e.counts }; requests = e.requests })
+    step e = Ok (record
+        { progress = record { frames = s.frames ++ e.frame ∷ []; counts = e.counts }; requests = e.requests })
 
-    by_entered : (a : Answer Entered) → (a >>= next) ≡ below levels blocks (r.block.name ∷ above) (length s.frames) (a >>= step)
+    by_entered : (a : Answer Entered)
+        → (a >>= next) ≡ below levels blocks (r.block.name ∷ above) (length s.frames) (a >>= step)
     by_entered (Ok e) = refl
     by_entered (Err e) = refl
 
-    by_room : (t : Bool) → (refuse_if t (Limit Cells 8192) >>= λ room. enter_one blocks (r.block.name ∷ above) parent s.counts r >>= next)
-        ≡ below levels blocks (r.block.name ∷ above) (length s.frames) (refuse_if t (Limit Cells 8192) >>= λ room. enter_one blocks (r.block.name ∷ above) parent s.counts r >>= step)
+    by_room : (t : Bool) → (refuse_if t (Limit Cells 8192)
+        >>= λ room. enter_one blocks (r.block.name ∷ above) parent s.counts r >>= next)
+        ≡ below levels blocks (r.block.name ∷ above) (length s.frames) (refuse_if t (Limit Cells 8192)
+        >>= λ room. enter_one blocks (r.block.name ∷ above) parent s.counts r >>= step)
     by_room true = refl
     by_room false = by_entered (enter_one blocks (r.block.name ∷ above) parent s.counts r)
 
-pub a_level : (levels : ℕ) (blocks : List SeenModule) (above inside : List (List ℕ)) (parent : Option ℕ) (s : Progress) (r : Request) → 0 < levels → inside ≡ r.block.name ∷ above
-    → enter levels blocks above parent s r ≡ below (levels - 1) blocks inside (length s.frames) (with_cell blocks inside parent s r)
+pub a_level : (levels : ℕ) (blocks : List SeenModule) (above inside : List (List ℕ)) (parent : Option ℕ)
+    (s : Progress) (r : Request) → 0 < levels → inside ≡ r.block.name ∷ above
+    → enter levels blocks above parent s r
+    ≡ below (levels - 1) blocks inside (length s.frames) (with_cell blocks inside parent s r)
 a_level zero blocks above inside parent s r lt e = absurd (omega (arith, lt))
-a_level (suc levels) blocks above inside parent s r lt e = rw e (let n : suc levels - 1 ≡ levels = omega arith in rw n (one_level levels blocks above parent s r))
+a_level (suc levels) blocks above inside parent s r lt e =
+    rw e (let n : suc levels - 1 ≡ levels = omega arith in rw n (one_level levels blocks above parent s r))
 
-pub below_fails : (levels : ℕ) (blocks : List SeenModule) (inside : List (List ℕ)) (cell : ℕ) (a : Answer Stepped) (e : Option Fault) (whole : Answer Progress) → whole ≡ below levels blocks inside cell a → Fails e a → Fails e whole
+pub below_fails : (levels : ℕ) (blocks : List SeenModule) (inside : List (List ℕ)) (cell : ℕ)
+    (a : Answer Stepped) (e : Option Fault) (whole : Answer Progress)
+    → whole ≡ below levels blocks inside cell a → Fails e a → Fails e whole
 below_fails levels blocks inside cell a None whole h k = tt
 below_fails levels blocks inside cell a (Some e) whole h k = h ∙ ap (below levels blocks inside cell) k
 
-pub below_goes : (levels : ℕ) (blocks : List SeenModule) (inside : List (List ℕ)) (cell : ℕ) (a : Answer Stepped) (w : Stepped) (whole : Answer Progress) → whole ≡ below levels blocks inside cell a → a ≡ Ok w
+pub below_goes : (levels : ℕ) (blocks : List SeenModule) (inside : List (List ℕ)) (cell : ℕ)
+    (a : Answer Stepped) (w : Stepped) (whole : Answer Progress)
+    → whole ≡ below levels blocks inside cell a → a ≡ Ok w
     → over (enter levels blocks inside (Some cell)) w.progress w.requests ≡ whole
 below_goes levels blocks inside cell a w whole h k = sym (h ∙ ap (below levels blocks inside cell) k)

@@ -1,12 +1,16 @@
--- The first pass of elaboration (IEEE 1687-2014, ICL: Instance, Parameter): which cells there are, in preorder, with their
--- parameters and the ranges of what they declare; or the first fault. A cell is finished before its first child is entered.
-use Rattle.std.specs.Prelude.{ℕ, zero, suc, nat_le, Bool, not, ◌&&◌, cond, List, [], ◌∷◌, ◌++◌, length, Option, Some, None, is_some, Ok, Err}
+-- The first pass of elaboration (IEEE 1687-2014, ICL: Instance, Parameter): which cells there are, in
+-- preorder, with their parameters and the ranges of what they declare; or the first fault. A cell is finished
+-- before its first child is entered.
+use Rattle.std.specs.Prelude.{ℕ, zero, suc, nat_le, Bool, not, ◌&&◌, cond, List, [], ◌∷◌, ◌++◌, length}
+use Rattle.std.specs.Prelude.{Option, Some, None, is_some, Ok, Err}
 use Rattle.std.specs.List.{list_any}
 use Rattle.std.specs.Str.{bytes_eq}
 use Rattle.ij_text.specs.declared.Place.{Place}
 use Rattle.ij_text.specs.declared.Which.TheVariants.{Hierarchy, Cells}
-use Rattle.icl_lexer.specs.Values.{SeenExpr, SeenBind, ABoundPort, ABoundParameter, ABoundAttribute, SeenWhat, AChild, AParameter, SeenItem, SeenModule}
-use Rattle.icl_declarations.specs.Faults.{Answer, ◌>>=◌, refuse_if, over, NoModule, NoName, DoubleName, InstanceLoop, Limit}
+use Rattle.icl_lexer.specs.Values.{SeenExpr, SeenBind, ABoundPort, ABoundParameter, ABoundAttribute, SeenWhat}
+use Rattle.icl_lexer.specs.Values.{AChild, AParameter, SeenItem, SeenModule}
+use Rattle.icl_declarations.specs.Faults.{Answer, ◌>>=◌, refuse_if, over, NoModule, NoName, DoubleName}
+use Rattle.icl_declarations.specs.Faults.{InstanceLoop, Limit}
 use Rattle.icl_declarations.specs.Values.{Worth, Params, worth_of, with_worth}
 use Rattle.icl_declarations.specs.Expressions.{evaluate}
 use Rattle.icl_declarations.specs.declared.counts.Counts.{Counts}
@@ -41,7 +45,8 @@ abbrev pub bound_worth : Params → Bool → List ℕ → Option Worth
 bound_worth given local name = cond local None (worth_of given name)
 
 abbrev pub with_parameter : Params → Params → SeenItem → SeenWhat → Answer Params
-with_parameter given ps item (AParameter local e) = worth_in given ps item.at item.name e (bound_worth given local item.name) >>= λ worth. Ok (with_worth ps item.name worth)
+with_parameter given ps item (AParameter local e) = worth_in given ps item.at item.name e
+    (bound_worth given local item.name) >>= λ worth. Ok (with_worth ps item.name worth)
 with_parameter given ps item what = Ok ps
 
 -- a module's parameters are evaluated in the order of the text, each after those above it
@@ -63,7 +68,8 @@ abbrev pub known_block : List ℕ → Option SeenModule → Answer SeenModule
 known_block name None = Err (NoModule name)
 known_block name (Some block) = Ok block
 
--- the instance that an item wants, in a cell that stands in these modules; parameters are evaluated in the parent
+-- the instance that an item wants, in a cell that stands in these modules; parameters are evaluated in the
+-- parent
 abbrev pub request : List SeenModule → List (List ℕ) → Params → SeenItem → SeenWhat → Answer (List Request)
 request blocks above ps item (AChild module' binds) = do
   block ← known_block module' (block_named blocks module')
@@ -74,7 +80,8 @@ request blocks above ps item what = Ok []
 
 -- ---- the items of a cell
 
--- what is known after some items: these items, the bounds of the parts among them, the instances that they want
+-- what is known after some items: these items, the bounds of the parts among them, the instances that they
+-- want
 pub record Passed : Type 0 where
   pub items : List SeenItem
   pub bounds : List Bounds
@@ -91,7 +98,8 @@ pub record Added : Type 0 where
   pub counts : Counts
 
 -- an item after others, in a cell that stands in these modules
-unfoldable pub look_at : List SeenModule → List (List ℕ) → Params → List SeenItem → Counts → SeenItem → Answer Added
+unfoldable pub look_at : List SeenModule → List (List ℕ) → Params
+    → List SeenItem → Counts → SeenItem → Answer Added
 look_at blocks above ps before c item = do
   names ← new_names before item
   b ← declared ps (range_in item.what)
@@ -100,10 +108,16 @@ look_at blocks above ps before c item = do
   Ok (record { bounds = b; wanted = wanted; counts = counts })
 
 abbrev pub with_added : Passed → SeenItem → Added → Passed
-with_added s item a = record { items = s.items ++ item ∷ []; bounds = s.bounds ++ bounds_of item.what a.bounds; requests = s.requests ++ a.wanted; counts = a.counts }
+with_added s item a = record {
+  items = s.items ++ item ∷ [];
+  bounds = s.bounds ++ bounds_of item.what a.bounds;
+  requests = s.requests ++ a.wanted;
+  counts = a.counts;
+}
 
 unfoldable pub pass_item : List SeenModule → List (List ℕ) → Params → Passed → SeenItem → Answer Passed
-pass_item blocks above ps s item = look_at blocks above ps s.items s.counts item >>= λ a. Ok (with_added s item a)
+pass_item blocks above ps s item =
+    look_at blocks above ps s.items s.counts item >>= λ a. Ok (with_added s item a)
 
 abbrev pub nothing_passed : Counts → Passed
 nothing_passed c = record { items = []; bounds = []; requests = []; counts = c }
@@ -115,7 +129,8 @@ pass_items blocks above ps c block = over (pass_item blocks above ps) (nothing_p
 
 -- the top is no instrument
 abbrev pub finish : Option ℕ → SeenModule → Passed → Answer Counts
-finish parent block s = cond (is_some parent && is_instrument block) (count_instrument block s.bounds s.counts) (Ok s.counts)
+finish parent block s =
+    cond (is_some parent && is_instrument block) (count_instrument block s.bounds s.counts) (Ok s.counts)
 
 -- ---- cells
 
@@ -135,7 +150,17 @@ enter_one blocks above parent c r = do
   ps ← parameters r.given r.block
   s ← pass_items blocks above ps c r.block
   counts ← finish parent r.block s
-  Ok (record { frame = record { name = r.name; parent = parent; block = r.block; params = ps; bounds = s.bounds }; requests = s.requests; counts = counts })
+  Ok (record {
+    frame = record {
+      name = r.name;
+      parent = parent;
+      block = r.block;
+      params = ps;
+      bounds = s.bounds;
+    };
+    requests = s.requests;
+    counts = counts;
+  })
 
 -- a cell and all cells below it, in so many levels
 unfoldable pub enter : ℕ → List SeenModule → List (List ℕ) → Option ℕ → Progress → Request → Answer Progress
@@ -143,12 +168,14 @@ enter zero blocks above parent s r = Err (Limit Hierarchy 64)
 enter (suc levels) blocks above parent s r = do
   room ← refuse_if (nat_le 8192 (length s.frames)) (Limit Cells 8192)
   e ← enter_one blocks (r.block.name ∷ above) parent s.counts r
-  over (enter levels blocks (r.block.name ∷ above) (Some (length s.frames))) (record { frames = s.frames ++ e.frame ∷ []; counts = e.counts }) e.requests
+  over (enter levels blocks (r.block.name ∷ above) (Some (length s.frames)))
+      (record { frames = s.frames ++ e.frame ∷ []; counts = e.counts }) e.requests
 
 -- ---- the whole pass
 
 abbrev pub with_block : List SeenModule → SeenModule → Answer (List SeenModule)
-with_block before block = refuse_if (is_some (block_named before block.name)) (DoubleName block.at block.name) >>= λ u. Ok (before ++ block ∷ [])
+with_block before block = refuse_if (is_some (block_named before block.name)) (DoubleName block.at block.name)
+    >>= λ u. Ok (before ++ block ∷ [])
 
 abbrev pub nothing_entered : Progress
 nothing_entered = record { frames = []; counts = record { bits = 0; muxes = 0; instruments = 0 } }

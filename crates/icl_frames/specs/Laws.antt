@@ -1,13 +1,16 @@
--- What holds of the frames of every accepted design (IEEE 1687-2014, ICL): they form a tree, each one has what its module
--- declares, and they are within this compiler's limits.
-use Rattle.std.specs.Prelude.{◌≡◌, ◌≤◌, ◌<◌, ℕ, suc, Bool, true, ◌&&◌, cond, List, [], ◌∷◌, ◌++◌, map, filter, zip, length, get_or, sum_by, count_by, Contains, slice_get, Option, Some, None, Ok, is_some, IfSome, IsSomeAnd}
+-- What holds of the frames of every accepted design (IEEE 1687-2014, ICL): they form a tree, each one has
+-- what its module declares, and they are within this compiler's limits.
+use Rattle.std.specs.Prelude.{◌≡◌, ◌≤◌, ◌<◌, ℕ, suc, Bool, true, ◌&&◌, cond, List, [], ◌∷◌, ◌++◌, map, filter}
+use Rattle.std.specs.Prelude.{zip, length, get_or, sum_by, count_by, Contains, slice_get, Option, Some, None}
+use Rattle.std.specs.Prelude.{Ok, is_some, IfSome, IsSomeAnd}
 use Rattle.std.specs.List.{AllByRecursion, enumerate_from}
 use Rattle.ij_bits.specs.Different.{AreDifferent}
 use Rattle.icl_lexer.specs.Values.{SeenItem, SeenModule}
 use Rattle.icl_declarations.specs.Faults.{each}
 use Rattle.icl_declarations.specs.declared.ranges.Bounds.{Bounds}
 use Rattle.icl_declarations.specs.Ranges.{width, declared}
-use Rattle.icl_declarations.specs.Parts.{is_register, is_mux, is_signal, port_that, is_data_in, is_data_out, is_data_port, is_instrument, inner_names, range_in, parts_of}
+use Rattle.icl_declarations.specs.Parts.{is_register, is_mux, is_signal, port_that, is_data_in, is_data_out}
+use Rattle.icl_declarations.specs.Parts.{is_data_port, is_instrument, inner_names, range_in, parts_of}
 use Rattle.icl_frames.specs.FirstPass.{Frame, first_pass}
 use Rattle.icl_frames.specs.Preorder.{children_of}
 
@@ -39,7 +42,8 @@ child_names items = map (λ d. d.name) (children_of items)
 
 -- a frame with a parent is one of the instances that the parent's module declares
 abbrev pub IsDeclaredIn : List Frame → Frame → Type 0
-IsDeclaredIn frames f = IfSome f.parent (λ parent. IsSomeAnd (slice_get frames parent) (λ p. Contains (child_names p.block.items) f.name))
+IsDeclaredIn frames f = IfSome f.parent
+    (λ parent. IsSomeAnd (slice_get frames parent) (λ p. Contains (child_names p.block.items) f.name))
 
 pub record AreTree (blocks : List SeenModule) (frames : List Frame) : Type 0 where
   pub some : 1 ≤ length frames
@@ -63,10 +67,11 @@ is_instrument_frame f = is_some f.parent && is_instrument f.block
 pub record HasFewPorts (f : Frame) : Type 0 where
   pub inputs : count_by (λ item. port_that is_data_in item.what) f.block.items ≤ 16
   pub outputs : count_by (λ item. port_that is_data_out item.what) f.block.items ≤ 16
-  pub widths : AllByRecursion (λ (p : SeenItem × Bounds). is_data_port p.0.what ≡ true → width p.1 ≤ 64) (parts_in f)
+  pub widths : AllByRecursion (λ (p : SeenItem × Bounds). is_data_port p.0.what ≡ true
+      → width p.1 ≤ 64) (parts_in f)
 
--- each part has the bounds that its range says in the frame's parameters, one bit without a range, and at most 65,536; the names
--- of its signals differ, and so do those in each item
+-- each part has the bounds that its range says in the frame's parameters, one bit without a range, and at
+-- most 65,536; the names of its signals differ, and so do those in each item
 pub record IsFrame (f : Frame) : Type 0 where
   pub bounds : each (λ item. declared f.params (range_in item.what)) (parts_of f.block) ≡ Ok f.bounds
   pub all : length f.bounds ≡ length (parts_of f.block)
@@ -96,12 +101,15 @@ pub record AreFew (frames : List Frame) : Type 0 where
 
 abbrev pub FramesAreTree : Type 0
 FramesAreTree =
-    (blocks : List SeenModule) (top : List ℕ) (frames : List Frame) → first_pass blocks top ≡ Ok frames → AreTree blocks frames
+    (blocks : List SeenModule) (top : List ℕ) (frames : List Frame)
+    → first_pass blocks top ≡ Ok frames → AreTree blocks frames
 
 abbrev pub FramesAreDeclared : Type 0
 FramesAreDeclared =
-    (blocks : List SeenModule) (top : List ℕ) (frames : List Frame) → first_pass blocks top ≡ Ok frames → AllByRecursion IsFrame frames
+    (blocks : List SeenModule) (top : List ℕ) (frames : List Frame)
+    → first_pass blocks top ≡ Ok frames → AllByRecursion IsFrame frames
 
 abbrev pub FramesAreFew : Type 0
 FramesAreFew =
-    (blocks : List SeenModule) (top : List ℕ) (frames : List Frame) → first_pass blocks top ≡ Ok frames → AreFew frames
+    (blocks : List SeenModule) (top : List ℕ) (frames : List Frame)
+    → first_pass blocks top ≡ Ok frames → AreFew frames

@@ -1,7 +1,8 @@
--- The cells of an accepted design are its instances in preorder (IEEE 1687-2014, ICL: Instance): each one before its children, and
--- these one after another, as the module's text has them. Each has the parameters that its module evaluates to, with those
--- that its instance binds, which are evaluated in the parent.
-use Rattle.std.specs.Prelude.{◌≡◌, ◌+◌, ℕ, zero, suc, List, [], ◌∷◌, ◌++◌, filter_map, length, Option, Some, None, Ok}
+-- The cells of an accepted design are its instances in preorder (IEEE 1687-2014, ICL: Instance): each one
+-- before its children, and these one after another, as the module's text has them. Each has the parameters
+-- that its module evaluates to, with those that its instance binds, which are evaluated in the parent.
+use Rattle.std.specs.Prelude.{◌≡◌, ◌+◌, ℕ, zero, suc, List, [], ◌∷◌, ◌++◌, filter_map, length, Option, Some}
+use Rattle.std.specs.Prelude.{None, Ok}
 use Rattle.icl_lexer.specs.Values.{SeenBind, SeenWhat, AChild, SeenItem, SeenModule}
 use Rattle.icl_declarations.specs.Faults.{over}
 use Rattle.icl_declarations.specs.Values.{Params}
@@ -27,7 +28,8 @@ abbrev pub OfInstance : Type 1
 OfInstance = ℕ → Option ℕ → List ℕ → SeenModule → Params → List Frame → Type 0
 
 -- the frames of one child
-pub record AreOfChild (blocks : List SeenModule) (Is : OfInstance) (number parent : ℕ) (params : Params) (d : Declared) (frames : List Frame) : Type 0 where
+pub record AreOfChild (blocks : List SeenModule) (Is : OfInstance) (number parent : ℕ) (params : Params)
+    (d : Declared) (frames : List Frame) : Type 0 where
   pub block : SeenModule
   pub given : Params
   pub known : block_named blocks d.module_name ≡ Some block
@@ -38,21 +40,27 @@ pub record AreOfChild (blocks : List SeenModule) (Is : OfInstance) (number paren
 abbrev pub AreOfChildren : List SeenModule → OfInstance → ℕ → ℕ → Params → List Declared → List Frame → Type 0
 AreOfChildren blocks Is number parent params [] frames = frames ≡ []
 AreOfChildren blocks Is number parent params (d ∷ ds) frames =
-    (xs : List Frame) × (ys : List Frame) × (frames ≡ xs ++ ys) × AreOfChild blocks Is number parent params d xs × AreOfChildren blocks Is (number + length xs) parent params ds ys
+    (xs : List Frame) × (ys : List Frame) × (frames ≡ xs ++ ys)
+    × AreOfChild blocks Is number parent params d xs
+    × AreOfChildren blocks Is (number + length xs) parent params ds ys
 
 -- the frames of an instance, in so many levels: its own, and those of its children after it
 abbrev pub AreOfInstance : List SeenModule → ℕ → OfInstance
 AreOfInstance blocks zero number parent name block given frames = ⊥
 AreOfInstance blocks (suc levels) number parent name block given [] = ⊥
 AreOfInstance blocks (suc levels) number parent name block given (frame ∷ rest) =
-    (frame.name ≡ name) × (frame.parent ≡ parent) × (frame.block ≡ block) × (parameters given block ≡ Ok frame.params)
-    × AreOfChildren blocks (AreOfInstance blocks levels) (suc number) number frame.params (children_of block.items) rest
+    (frame.name ≡ name) × (frame.parent ≡ parent) × (frame.block ≡ block)
+    × (parameters given block ≡ Ok frame.params)
+    × AreOfChildren blocks (AreOfInstance blocks levels)
+    (suc number) number frame.params (children_of block.items) rest
 
--- the frames of an accepted design are those of its top, with at most 64 instances inside one another below it
+-- the frames of an accepted design are those of its top, with at most 64 instances inside one another below
+-- it
 pub record ArePreorder (blocks : List SeenModule) (top : List ℕ) (frames : List Frame) : Type 0 where
   pub block : SeenModule
   pub known : block_named blocks top ≡ Some block
   pub instance : AreOfInstance blocks 65 0 None [] block [] frames
 
 abbrev pub FramesArePreorder : Type 0
-FramesArePreorder = (blocks : List SeenModule) (top : List ℕ) (frames : List Frame) → first_pass blocks top ≡ Ok frames → ArePreorder blocks top frames
+FramesArePreorder = (blocks : List SeenModule) (top : List ℕ) (frames : List Frame)
+    → first_pass blocks top ≡ Ok frames → ArePreorder blocks top frames

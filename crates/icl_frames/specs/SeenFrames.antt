@@ -31,16 +31,28 @@ names_of above = map (λ block. block.now.name.items) above
 
 -- after these items
 abbrev pub seen_passed : List SeenItem → PassedAt → Passed
-seen_passed items s = record { items = items; bounds = s.bounds.items; requests = map seen_request s.requests.items; counts = s.counts }
+seen_passed items s = record {
+  items = items;
+  bounds = s.bounds.items;
+  requests = map seen_request s.requests.items;
+  counts = s.counts;
+}
 
 abbrev pub seen_added : AddedAt → Added
 seen_added a = record { bounds = a.bounds; wanted = seen_wanted a.wanted; counts = a.counts }
 
 abbrev pub seen_frame : FrameAt → Frame
-seen_frame f = record { name = f.name.now; parent = f.parent; block = seen_module f.block.now; params = seen_table f.params; bounds = f.bounds.items }
+seen_frame f = record {
+  name = f.name.now;
+  parent = f.parent;
+  block = seen_module f.block.now;
+  params = seen_table f.params;
+  bounds = f.bounds.items;
+}
 
 abbrev pub seen_entered : EnteredAt → Entered
-seen_entered e = record { frame = seen_frame e.frame; requests = map seen_request e.requests.items; counts = e.counts }
+seen_entered e =
+    record { frame = seen_frame e.frame; requests = map seen_request e.requests.items; counts = e.counts }
 
 abbrev pub seen_progress : ProgressAt → Progress
 seen_progress s = record { frames = map seen_frame s.frames.items; counts = s.counts }
@@ -50,11 +62,22 @@ seen_progress s = record { frames = map seen_frame s.frames.items; counts = s.co
 -- what `enter_one` does after the items of a cell
 abbrev pub finished : Option ℕ → Request → Params → Passed → Answer Entered
 finished parent r ps s =
-    finish parent r.block s >>= λ counts. Ok (record { frame = record { name = r.name; parent = parent; block = r.block; params = ps; bounds = s.bounds }; requests = s.requests; counts = counts })
+    finish parent r.block s >>= λ counts. Ok (record {
+      frame = record {
+        name = r.name;
+        parent = parent;
+        block = r.block;
+        params = ps;
+        bounds = s.bounds;
+      };
+      requests = s.requests;
+      counts = counts;
+    })
 
 -- the next cell, if there is room for one
 abbrev pub entered_next : List SeenModule → List (List ℕ) → Option ℕ → Progress → Request → Answer Entered
-entered_next blocks above parent s r = refuse_if (nat_le 8192 (length s.frames)) (Limit Cells 8192) >>= λ room. enter_one blocks above parent s.counts r
+entered_next blocks above parent s r = refuse_if (nat_le 8192 (length s.frames)) (Limit Cells 8192)
+    >>= λ room. enter_one blocks above parent s.counts r
 
 -- the cells with one more, and the instances that it wants
 pub record Stepped : Type 0 where
@@ -69,4 +92,7 @@ unfoldable pub with_cell : List SeenModule → List (List ℕ) → Option ℕ �
 with_cell blocks above parent s r = do
   room ← refuse_if (nat_le 8192 (length s.frames)) (Limit Cells 8192)
   e ← enter_one blocks above parent s.counts r
-  Ok (record { progress = record { frames = s.frames ++ e.frame ∷ []; counts = e.counts }; requests = e.requests })
+  Ok (record {
+    progress = record { frames = s.frames ++ e.frame ∷ []; counts = e.counts };
+    requests = e.requests;
+  })

@@ -1,12 +1,13 @@
--- What the grammar gives each design (IEEE 1687-2014, ICL): names are names of ICL, a multiplexer has a select and rows, and each row
--- has a value.
+-- What the grammar gives each design (IEEE 1687-2014, ICL): names are names of ICL, a multiplexer has a
+-- select and rows, and each row has a value.
 use Rattle.std.specs.Prelude.{◌≡◌, ◌≤◌, ◌<◌, ◌^◌, ℕ, List, length, IfSome, IsTrue, Ok}
 use Rattle.std.specs.List.{AllByRecursion}
 use Rattle.ij_text.specs.Words.{is_name}
 use Rattle.icl_lexer.specs.Token.{Token}
 use Rattle.icl_lexer.specs.Cutting.{AreTokens}
 use Rattle.icl_lexer.specs.Seen.{seen_tokens}
-use Rattle.icl_lexer.specs.Values.{SeenSig, SeenRow, SeenEnumWord, SeenWhat, AMux, SomeWords, SeenItem, SeenModule}
+use Rattle.icl_lexer.specs.Values.{SeenSig, SeenRow, SeenEnumWord, SeenWhat, AMux, SomeWords, SeenItem}
+use Rattle.icl_lexer.specs.Values.{SeenModule}
 use Rattle.icl_lexer.specs.Modules.{design}
 use Rattle.icl_frames.specs.FirstPass.{Frame, first_pass}
 
@@ -37,7 +38,8 @@ AreWritten blocks = AllByRecursion IsWritten blocks
 -- every design that is read from a text of fewer than 2^32 tokens is so
 abbrev pub DesignsAreWritten : Type 0
 DesignsAreWritten =
-    (text : List ℕ) (tokens : List Token) (blocks : List SeenModule) → AreTokens text tokens → length tokens < 2 ^ 32
+    (text : List ℕ) (tokens : List Token) (blocks : List SeenModule)
+    → AreTokens text tokens → length tokens < 2 ^ 32
     → design.derives (seen_tokens text tokens) blocks → AreWritten blocks
 
 -- ---- frames
@@ -50,5 +52,6 @@ pub record IsWrittenFrame (f : Frame) : Type 0 where
 -- and so is each frame of an accepted design
 abbrev pub FramesAreWritten : Type 0
 FramesAreWritten =
-    (blocks : List SeenModule) (top : List ℕ) (frames : List Frame) → AreWritten blocks → first_pass blocks top ≡ Ok frames
+    (blocks : List SeenModule) (top : List ℕ) (frames : List Frame)
+    → AreWritten blocks → first_pass blocks top ≡ Ok frames
     → AllByRecursion IsWrittenFrame frames

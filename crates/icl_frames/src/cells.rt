@@ -1,13 +1,16 @@
 // The cells of a design in preorder: each instance before those in it.
-ghost use Rattle.std.specs.Prelude.{◌≡◌, ◌≤◌, ◌∷◌, ◌++◌, ℕ, List, [], None, map, length, nat_le, IfOk, IfErr, OnOk};
+ghost use Rattle.std.specs.Prelude.{◌≡◌, ◌≤◌, ◌∷◌, ◌++◌, ℕ, List, [], None, map, length, nat_le, IfOk, IfErr};
+ghost use Rattle.std.specs.Prelude.{OnOk};
 ghost use Rattle.ij_text.specs.Options.{same};
 ghost use Rattle.icl_lexer.specs.Views.{seen_item, seen_module};
 ghost use Rattle.icl_declarations.specs.Faults.{Gives, refuse_if, over, Limit};
 ghost use Rattle.icl_declarations.specs.Scopes.{entry_of};
 ghost use Rattle.ij_text.specs.declared.Which.TheVariants.{Cells};
 ghost use Rattle.icl_declarations.specs.Tables.{seen_table};
-ghost use Rattle.icl_frames.specs.FirstPass.{with_block, parameters, pass_items, finish, enter_one, enter, first_pass};
-ghost use Rattle.icl_frames.specs.SeenFrames.{names_of, seen_passed, seen_request, seen_frame, seen_entered, seen_progress, seen_stepped, finished, entered_next, with_cell};
+ghost use Rattle.icl_frames.specs.FirstPass.{with_block, parameters, pass_items, finish, enter_one, enter};
+ghost use Rattle.icl_frames.specs.FirstPass.{first_pass};
+ghost use Rattle.icl_frames.specs.SeenFrames.{names_of, seen_passed, seen_request, seen_frame, seen_entered};
+ghost use Rattle.icl_frames.specs.SeenFrames.{seen_progress, seen_stepped, finished, entered_next, with_cell};
 
 use crate::ElabFault;
 use crate::frames::{Passed, Request, pass_items};
@@ -29,8 +32,8 @@ pub struct Frame<'a> {
     pub block: &'a Module,
     /// Its parameters, with the values that its instance binds.
     pub params: ParamTable,
-    /// The left and the right index of each of its parts (ports, registers, multiplexers, instances, aliases, interfaces and
-    /// links), in the order of the text; 0 and 0 for a part without a range.
+    /// The left and the right index of each of its parts (ports, registers, multiplexers, instances, aliases,
+    /// interfaces and links), in the order of the text; 0 and 0 for a part without a range.
     pub bounds: Vec<Bounds>,
 }
 
@@ -57,7 +60,8 @@ pub struct Progress<'a> {
 /// What is counted with a cell whose items were passed: an instrument, unless it is the top.
 fn finish(parent: Option<u32>, block: &Module, passed: &Passed) -> Result<Counts, ElabFault>
     ensures few { IfOk result (λ c. c.bits ≡ passed.now.counts.bits) }
-    ensures gives { Gives same result (finish parent (seen_module block.now) (seen_passed (map seen_item block.now.items.items) passed.now)) }
+    ensures gives { Gives same result (finish parent (seen_module block.now)
+        (seen_passed (map seen_item block.now.items.items) passed.now)) }
 {
     if parent.is_some() && is_instrument(block) {
         count_instrument(block, passed.bounds.as_slice(), passed.counts)
@@ -88,7 +92,9 @@ fn own_items<'a>(
 ) -> Result<Passed<'a>, ElabFault>
     requires { counts.bits ≤ 4096 }
     ensures few { IfOk result (λ s. s.counts.bits ≤ 4096) }
-    ensures gives { Gives (seen_passed (map seen_item block.now.items.items)) result (pass_items (map seen_module modules.now) (names_of above.now) (seen_table params.now) counts (seen_module block.now)) }
+    ensures gives { Gives (seen_passed (map seen_item block.now.items.items)) result
+        (pass_items (map seen_module modules.now) (names_of above.now)
+        (seen_table params.now) counts (seen_module block.now)) }
 {
     pass_items(
         alloc,
@@ -108,7 +114,8 @@ fn finished<'a>(
     passed: Passed<'a>,
 ) -> Result<Entered<'a>, ElabFault>
     ensures few { IfOk result (λ e. e.counts.bits ≡ passed.entry.counts.bits) }
-    ensures gives { Gives seen_entered result (finished parent (seen_request request.now) (seen_table params) (seen_passed (map seen_item request.now.block.now.items.items) passed.entry)) }
+    ensures gives { Gives seen_entered result (finished parent (seen_request request.now) (seen_table params)
+        (seen_passed (map seen_item request.now.block.now.items.items) passed.entry)) }
 {
     match finish(parent, request.block, &passed) {
         Ok(counts) => {
@@ -145,7 +152,8 @@ fn enter_one<'a>(
 ) -> Result<Entered<'a>, ElabFault>
     requires { counts.bits ≤ 4096 }
     ensures few { IfOk result (λ e. e.counts.bits ≤ 4096) }
-    ensures gives { Gives seen_entered result (enter_one (map seen_module modules.now) (names_of above.now) parent counts (seen_request request.now)) }
+    ensures gives { Gives seen_entered result (enter_one (map seen_module modules.now)
+        (names_of above.now) parent counts (seen_request request.now)) }
 {
     let block = request.block;
     let params = own_parameters(alloc, &request.given, block)?;
@@ -161,7 +169,8 @@ fn enter_one<'a>(
 /// The number of the next cell, if there is room for one.
 fn next_cell(frames: &[Frame]) -> Result<u32, ElabFault>
     ensures number { IfOk result (λ n. n ≡ length (map seen_frame frames.now)) }
-    ensures gives { Gives (λ n. tt) result (refuse_if (nat_le 8192 (length (map seen_frame frames.now))) (Limit Cells 8192)) }
+    ensures gives { Gives (λ n. tt) result
+        (refuse_if (nat_le 8192 (length (map seen_frame frames.now))) (Limit Cells 8192)) }
 {
     if frames.len() >= 8192 {
         return Err(ElabFault::Limit {
@@ -174,7 +183,8 @@ fn next_cell(frames: &[Frame]) -> Result<u32, ElabFault>
 
 /// Adds a cell to those before it.
 fn add_frame<'a>(frames: &mut Vec<Frame<'a>>, frame: Frame<'a>) -> Result<(), ElabFault>
-    ensures ok { OnOk result (map seen_frame frames.new.items ≡ map seen_frame frames.old.items ++ seen_frame frame.entry ∷ []) }
+    ensures ok { OnOk result (map seen_frame frames.new.items
+        ≡ map seen_frame frames.old.items ++ seen_frame frame.entry ∷ []) }
     ensures told { IfErr result (λ e. e ≡ ElabFault.OutOfMemory) }
 {
     frames.push(frame)?;
@@ -198,7 +208,14 @@ fn with_entered<'a>(
     cell: u32,
     entered: Entered<'a>,
 ) -> Result<Stepped<'a>, ElabFault>
-    ensures ok { IfOk result (λ w. seen_stepped w ≡ record { progress = record { frames = (seen_progress state.entry).frames ++ seen_frame entered.entry.frame ∷ []; counts = entered.entry.counts }; requests = map seen_request entered.entry.requests.items }) }
+    ensures ok { IfOk result (λ w. seen_stepped w ≡ record {
+      progress =
+          record {
+            frames = (seen_progress state.entry).frames ++ seen_frame entered.entry.frame ∷ [];
+            counts = entered.entry.counts;
+          };
+      requests = map seen_request entered.entry.requests.items;
+    }) }
     ensures counts { IfOk result (λ w. w.progress.counts ≡ entered.entry.counts) }
     ensures number { IfOk result (λ w. w.cell ≡ cell) }
     ensures told { IfErr result (λ e. e ≡ ElabFault.OutOfMemory) }
@@ -233,7 +250,8 @@ fn entered_next<'a>(
     requires { state.now.counts.bits ≤ 4096 }
     ensures few { IfOk result (λ p. p.1.counts.bits ≤ 4096) }
     ensures number { IfOk result (λ p. p.0 ≡ length (map seen_frame state.now.frames.items)) }
-    ensures gives { Gives (λ p. seen_entered p.1) result (entered_next (map seen_module modules.now) (names_of above.now) parent (seen_progress state.now) (seen_request request.now)) }
+    ensures gives { Gives (λ p. seen_entered p.1) result (entered_next (map seen_module modules.now)
+        (names_of above.now) parent (seen_progress state.now) (seen_request request.now)) }
 {
     let cell = next_cell(state.frames.as_slice())?;
     let entered = enter_one(alloc, modules, above, parent, state.counts, request)?;
@@ -253,7 +271,8 @@ fn with_cell<'a>(
     requires { state.counts.bits ≤ 4096 }
     ensures few { IfOk result (λ w. w.progress.counts.bits ≤ 4096) }
     ensures number { IfOk result (λ w. w.cell ≡ length (map seen_frame state.entry.frames.items)) }
-    ensures gives { Gives seen_stepped result (with_cell (map seen_module modules.now) (names_of above.now) parent (seen_progress state.entry) (seen_request request.now)) }
+    ensures gives { Gives seen_stepped result (with_cell (map seen_module modules.now)
+        (names_of above.now) parent (seen_progress state.entry) (seen_request request.now)) }
 {
     match entered_next(alloc, modules, above, parent, &state, request) {
         Ok((cell, entered)) => with_entered(state, cell, entered),
@@ -312,7 +331,8 @@ fn enter<'a>(
 ) -> Result<Progress<'a>, ElabFault>
     requires { state.counts.bits ≤ 4096 }
     ensures few { IfOk result (λ s. s.counts.bits ≤ 4096) }
-    ensures gives { Gives seen_progress result (enter levels (map seen_module modules.now) (names_of above.now) parent (seen_progress state.entry) (seen_request request.now)) }
+    ensures gives { Gives seen_progress result (enter levels (map seen_module modules.now)
+        (names_of above.now) parent (seen_progress state.entry) (seen_request request.now)) }
 {
     if levels == 0 {
         drop(state);
@@ -343,7 +363,8 @@ fn enter<'a>(
 /// Adds the names of modules to those before them, from which they differ.
 fn note_modules(alloc: Global, seen: &mut Scope, modules: &[Module]) -> Result<(), ElabFault>
     requires { (name : List ℕ) → entry_of seen.old name ≡ None }
-    ensures { Gives (λ u. map seen_module modules.now) result (over with_block [] (map seen_module modules.now)) }
+    ensures { Gives (λ u. map seen_module modules.now) result
+        (over with_block [] (map seen_module modules.now)) }
 {
     for block in modules {
         if seen.has(block.name.as_slice()) {
@@ -357,7 +378,8 @@ fn note_modules(alloc: Global, seen: &mut Scope, modules: &[Module]) -> Result<(
 
 /// Whether the names of the modules differ.
 fn distinct_modules(alloc: Global, modules: &[Module]) -> Result<(), ElabFault>
-    ensures { Gives (λ u. map seen_module modules.now) result (over with_block [] (map seen_module modules.now)) }
+    ensures { Gives (λ u. map seen_module modules.now) result
+        (over with_block [] (map seen_module modules.now)) }
 {
     let mut seen = Scope::new(alloc);
     let noted = note_modules(alloc, &mut seen, modules);
@@ -365,23 +387,26 @@ fn distinct_modules(alloc: Global, modules: &[Module]) -> Result<(), ElabFault>
     noted
 }
 
-/// The cells of a design with this top module, in preorder (IEEE 1687-2014, ICL: Module, Instance, Parameter): the top, which has
-/// number 0, and after each cell those of its instances, in the order of the text.
+/// The cells of a design with this top module, in preorder (IEEE 1687-2014, ICL: Module, Instance,
+/// Parameter): the top, which has number 0, and after each cell those of its instances, in the order of the
+/// text.
 ///
-/// The first fault on the way is the answer. Two modules of one name are `DoubleName` at the second word `Module`; a top that is
-/// no module is `NoModule`. Then each cell, before those in it: `Limit` of `Hierarchy` where it stands inside 64 others below the
-/// top, or of `Cells` where 8192 cells stand before it; its parameters (what `evaluate` of `icl_declarations` tells);
-/// its items in the order of the text (`DoubleName` of a name in the module, the faults of its range, `NoModule` of an instance,
-/// `InstanceLoop` where a module would stand in itself, `NoName` and `DoubleName` of a parameter that is bound, and `Limit` of
-/// register bits and multiplexers); and `Limit` of instruments, their ports and the ports' bits. `OutOfMemory` may come at any
-/// point.
+/// The first fault on the way is the answer. Two modules of one name are `DoubleName` at the second word
+/// `Module`; a top that is no module is `NoModule`. Then each cell, before those in it: `Limit` of
+/// `Hierarchy` where it stands inside 64 others below the top, or of `Cells` where 8192 cells stand before
+/// it; its parameters (what `evaluate` of `icl_declarations` tells); its items in the order of the text
+/// (`DoubleName` of a name in the module, the faults of its range, `NoModule` of an instance, `InstanceLoop`
+/// where a module would stand in itself, `NoName` and `DoubleName` of a parameter that is bound, and `Limit`
+/// of register bits and multiplexers); and `Limit` of instruments, their ports and the ports' bits.
+/// `OutOfMemory` may come at any point.
 #[tactic(auto, unfolding(crate::specs::FirstPass::first_pass))]
 pub fn first_pass<'a>(
     alloc: Global,
     modules: &'a [Module],
     top: &[u8],
 ) -> Result<Vec<Frame<'a>>, ElabFault>
-    ensures { Gives (λ frames. map seen_frame frames.items) result (first_pass (map seen_module modules.now) top.now) }
+    ensures { Gives (λ frames. map seen_frame frames.items) result
+        (first_pass (map seen_module modules.now) top.now) }
 {
     distinct_modules(alloc, modules)?;
     let block = known_block(alloc, modules, top)?;

@@ -7,7 +7,8 @@ ghost use Rattle.icl_lexer.specs.Values.{SeenItem, AChild};
 ghost use Rattle.icl_lexer.specs.Views.{seen_what, seen_item, seen_module, seen_bind};
 ghost use Rattle.icl_declarations.specs.Faults.{Gives, over};
 ghost use Rattle.icl_declarations.specs.Tables.{seen_table};
-ghost use Rattle.icl_frames.specs.FirstPass.{request, bounds_of, look_at, with_added, pass_item, nothing_passed};
+ghost use Rattle.icl_frames.specs.FirstPass.{request, bounds_of, look_at, with_added, pass_item};
+ghost use Rattle.icl_frames.specs.FirstPass.{nothing_passed};
 ghost use Rattle.icl_declarations.specs.Parts.{range_in};
 ghost use Rattle.icl_declarations.specs.Ranges.{declared};
 ghost use Rattle.icl_declarations.specs.Taken.{AreTaken};
@@ -67,7 +68,8 @@ fn child_request<'a>(
     of: &SmallText,
     binds: &[Bind],
 ) -> Result<Option<Request<'a>>, ElabFault>
-    ensures { Gives seen_wanted result (request (map seen_module modules.now) (names_of above.now) (seen_table params.now) (seen_item item.now) (AChild of.now.items (map seen_bind binds.now))) }
+    ensures { Gives seen_wanted result (request (map seen_module modules.now) (names_of above.now)
+        (seen_table params.now) (seen_item item.now) (AChild of.now.items (map seen_bind binds.now))) }
 {
     let block = known_block(alloc, modules, of.as_slice())?;
     if is_above(above, of.as_slice()) {
@@ -89,7 +91,8 @@ fn item_request<'a>(
     params: &ParamTable,
     item: &'a Item,
 ) -> Result<Option<Request<'a>>, ElabFault>
-    ensures { Gives seen_wanted result (request (map seen_module modules.now) (names_of above.now) (seen_table params.now) (seen_item item.now) (seen_what item.now.what)) }
+    ensures { Gives seen_wanted result (request (map seen_module modules.now) (names_of above.now)
+        (seen_table params.now) (seen_item item.now) (seen_what item.now.what)) }
 {
     match &item.what {
         What::Child { module: of, binds } => {
@@ -127,7 +130,8 @@ fn add_request<'a>(
     wanted: Option<Request<'a>>,
     requests: &mut Vec<Request<'a>>,
 ) -> Result<(), ElabFault>
-    ensures ok { OnOk result (map seen_request requests.new.items ≡ map seen_request requests.old.items ++ seen_wanted wanted.entry) }
+    ensures ok { OnOk result (map seen_request requests.new.items
+        ≡ map seen_request requests.old.items ++ seen_wanted wanted.entry) }
     ensures told { IfErr result (λ e. e ≡ ElabFault.OutOfMemory) }
 {
     if let Some(r) = wanted {
@@ -160,7 +164,9 @@ fn look_at<'a>(
 ) -> Result<Added<'a>, ElabFault>
     requires { counts.bits ≤ 4096 }
     ensures few { IfOk result (λ a. a.counts.bits ≤ 4096) }
-    ensures gives { (items : List SeenItem) → AreTaken taken.now items → Gives seen_added result (look_at (map seen_module modules.now) (names_of above.now) (seen_table params.now) items counts (seen_item item.now)) }
+    ensures gives { (items : List SeenItem) → AreTaken taken.now items
+        → Gives seen_added result (look_at (map seen_module modules.now) (names_of above.now)
+        (seen_table params.now) items counts (seen_item item.now)) }
 {
     new_names(alloc, taken, item)?;
     let bounds = declared_by(alloc, params, &item.what)?;
@@ -182,8 +188,10 @@ fn add<'a>(
 ) -> Result<(), ElabFault>
     ensures told { IfErr result (λ e. e ≡ ElabFault.OutOfMemory) }
     ensures counts { OnOk result (state.new.counts ≡ added.entry.counts) }
-    ensures taken { OnOk result ((items : List SeenItem) → AreTaken state.old.taken items → AreTaken state.new.taken (items ++ seen_item item.now ∷ [])) }
-    ensures added { OnOk result ((items : List SeenItem) → seen_passed (items ++ seen_item item.now ∷ []) state.new ≡ with_added (seen_passed items state.old) (seen_item item.now) (seen_added added.entry)) }
+    ensures taken { OnOk result ((items : List SeenItem) → AreTaken state.old.taken items
+        → AreTaken state.new.taken (items ++ seen_item item.now ∷ [])) }
+    ensures added { OnOk result ((items : List SeenItem) → seen_passed (items ++ seen_item item.now ∷ [])
+        state.new ≡ with_added (seen_passed items state.old) (seen_item item.now) (seen_added added.entry)) }
 {
     add_request(added.wanted, &mut state.requests)?;
     state.taken.pass(alloc, item)?;
@@ -204,8 +212,11 @@ fn add_item<'a>(
 ) -> Result<(), ElabFault>
     requires { state.old.counts.bits ≤ 4096 }
     ensures few { OnOk result (state.new.counts.bits ≤ 4096) }
-    ensures taken { OnOk result ((items : List SeenItem) → AreTaken state.old.taken items → AreTaken state.new.taken (items ++ seen_item item.now ∷ [])) }
-    ensures gives { (items : List SeenItem) → AreTaken state.old.taken items → Gives (λ u. seen_passed (items ++ seen_item item.now ∷ []) state.new) result (pass_item (map seen_module modules.now) (names_of above.now) (seen_table params.now) (seen_passed items state.old) (seen_item item.now)) }
+    ensures taken { OnOk result ((items : List SeenItem) → AreTaken state.old.taken items
+        → AreTaken state.new.taken (items ++ seen_item item.now ∷ [])) }
+    ensures gives { (items : List SeenItem) → AreTaken state.old.taken items → Gives (λ u. seen_passed
+        (items ++ seen_item item.now ∷ []) state.new) result (pass_item (map seen_module modules.now)
+        (names_of above.now) (seen_table params.now) (seen_passed items state.old) (seen_item item.now)) }
 {
     let added = look_at(
         alloc,
@@ -230,8 +241,11 @@ fn pass_item<'a>(
 ) -> Result<Passed<'a>, ElabFault>
     requires { state.counts.bits ≤ 4096 }
     ensures few { IfOk result (λ s. s.counts.bits ≤ 4096) }
-    ensures taken { IfOk result (λ s. (items : List SeenItem) → AreTaken state.entry.taken items → AreTaken s.taken (items ++ seen_item item.now ∷ [])) }
-    ensures gives { (items : List SeenItem) → AreTaken state.entry.taken items → Gives (seen_passed (items ++ seen_item item.now ∷ [])) result (pass_item (map seen_module modules.now) (names_of above.now) (seen_table params.now) (seen_passed items state.entry) (seen_item item.now)) }
+    ensures taken { IfOk result (λ s. (items : List SeenItem) → AreTaken state.entry.taken items
+        → AreTaken s.taken (items ++ seen_item item.now ∷ [])) }
+    ensures gives { (items : List SeenItem) → AreTaken state.entry.taken items → Gives
+        (seen_passed (items ++ seen_item item.now ∷ [])) result (pass_item (map seen_module modules.now)
+        (names_of above.now) (seen_table params.now) (seen_passed items state.entry) (seen_item item.now)) }
 {
     let mut state = state;
     match add_item(alloc, modules, above, params, &mut state, item) {
@@ -255,7 +269,9 @@ pub fn pass_items<'a>(
 ) -> Result<Passed<'a>, ElabFault>
     requires { counts.bits ≤ 4096 }
     ensures few { IfOk result (λ s. s.counts.bits ≤ 4096) }
-    ensures gives { Gives (seen_passed (map seen_item items.now)) result (over (pass_item (map seen_module modules.now) (names_of above.now) (seen_table params.now)) (nothing_passed counts) (map seen_item items.now)) }
+    ensures gives { Gives (seen_passed (map seen_item items.now)) result
+        (over (pass_item (map seen_module modules.now) (names_of above.now) (seen_table params.now))
+        (nothing_passed counts) (map seen_item items.now)) }
 {
     let mut state = Passed {
         taken: Taken::new(alloc),

@@ -18,7 +18,8 @@ use std::alloc::Global;
 
 /// The module of this name, if there is one.
 pub fn block_named<'a>(modules: &'a [Module], name: &[u8]) -> Option<&'a Module>
-    ensures { option_map (λ m. seen_module m.now) result ≡ block_named (map seen_module modules.now) name.now }
+    ensures { option_map (λ m. seen_module m.now) result
+        ≡ block_named (map seen_module modules.now) name.now }
 {
     for block in modules {
         if name == block.name.as_slice() {
@@ -34,7 +35,8 @@ pub fn known_block<'a>(
     modules: &'a [Module],
     name: &[u8],
 ) -> Result<&'a Module, ElabFault>
-    ensures { Gives (λ m. seen_module m.now) result (known_block name.now (block_named (map seen_module modules.now) name.now)) }
+    ensures { Gives (λ m. seen_module m.now) result
+        (known_block name.now (block_named (map seen_module modules.now) name.now)) }
 {
     match block_named(modules, name) {
         Some(block) => Ok(block),
@@ -47,7 +49,8 @@ pub fn known_block<'a>(
 
 /// Whether an item is a parameter of this name that is local, or isn't.
 fn is_parameter_named(item: &Item, is_local: bool, name: &[u8]) -> bool
-    ensures { result ≡ (is_parameter_that (same_bit is_local) (seen_what item.now.what) && bytes_eq name.now item.now.name.items) }
+    ensures { result ≡ (is_parameter_that (same_bit is_local)
+        (seen_what item.now.what) && bytes_eq name.now item.now.name.items) }
 {
     match &item.what {
         What::Parameter { local, .. } => *local == is_local && name == item.name.as_slice(),
@@ -83,7 +86,8 @@ fn bind(
     name: &SmallText,
     e: &Expr,
 ) -> Result<(), ElabFault>
-    ensures { Gives (λ u. seen_table given.new) result (with_binding (seen_table params.now) (seen_module block.now) (seen_table given.old) (ABoundParameter at name.now.items (seen_expr e.now))) }
+    ensures { Gives (λ u. seen_table given.new) result (with_binding (seen_table params.now) (seen_module
+        block.now) (seen_table given.old) (ABoundParameter at name.now.items (seen_expr e.now))) }
 {
     if !is_open(block, name.as_slice()) {
         let name = name_of(alloc, name.as_slice())?;
@@ -108,7 +112,8 @@ fn with_bound(
     name: &SmallText,
     e: &Expr,
 ) -> Result<ParamTable, ElabFault>
-    ensures { Gives seen_table result (with_binding (seen_table params.now) (seen_module block.now) (seen_table given) (ABoundParameter at name.now.items (seen_expr e.now))) }
+    ensures { Gives seen_table result (with_binding (seen_table params.now) (seen_module block.now)
+        (seen_table given) (ABoundParameter at name.now.items (seen_expr e.now))) }
 {
     let mut given = given;
     match bind(alloc, params, block, &mut given, at, name, e) {
@@ -120,7 +125,8 @@ fn with_bound(
     }
 }
 
-/// The parameters that an instance binds, with one more where the binding is one. They are evaluated in the parent.
+/// The parameters that an instance binds, with one more where the binding is one. They are evaluated in the
+/// parent.
 fn with_binding(
     alloc: Global,
     params: &ParamTable,
@@ -128,7 +134,8 @@ fn with_binding(
     given: ParamTable,
     bind: &Bind,
 ) -> Result<ParamTable, ElabFault>
-    ensures { Gives seen_table result (with_binding (seen_table params.now) (seen_module block.now) (seen_table given) (seen_bind bind.now)) }
+    ensures { Gives seen_table result (with_binding (seen_table params.now) (seen_module block.now)
+        (seen_table given) (seen_bind bind.now)) }
 {
     match bind {
         Bind::Parameter { at, name, value } => {
@@ -145,7 +152,8 @@ pub fn bound_parameters(
     block: &Module,
     binds: &[Bind],
 ) -> Result<ParamTable, ElabFault>
-    ensures { Gives seen_table result (over (with_binding (seen_table params.now) (seen_module block.now)) [] (map seen_bind binds.now)) }
+    ensures { Gives seen_table result
+        (over (with_binding (seen_table params.now) (seen_module block.now)) [] (map seen_bind binds.now)) }
 {
     let mut given = ParamTable::new(alloc);
     for bind in binds {

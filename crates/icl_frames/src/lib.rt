@@ -1,5 +1,5 @@
-//! The cells of a design of ICL (IEEE 1687-2014): its instances below a top module, in preorder, each with its parameters and the
-//! indices of its parts as numbers.
+//! The cells of a design of ICL (IEEE 1687-2014): its instances below a top module, in preorder, each with
+//! its parameters and the indices of its parts as numbers.
 #![tactic(auto)]
 
 mod cells;

@@ -16,7 +16,8 @@ use std::alloc::Global;
 
 /// The value that a parameter's instance binds it to, if it does and the parameter isn't local.
 fn bound_value<'a>(given: &'a ParamTable, local: bool, name: &SmallText) -> Option<&'a Value>
-    ensures { option_map (λ v. seen_value v.now) result ≡ bound_worth (seen_table given.now) local name.now.items }
+    ensures { option_map (λ v. seen_value v.now) result
+        ≡ bound_worth (seen_table given.now) local name.now.items }
 {
     if local {
         None
@@ -35,7 +36,8 @@ fn value_of(
     local: bool,
     e: &Expr,
 ) -> Result<Value, ElabFault>
-    ensures { Gives seen_value result (worth_in (seen_table given.now) (seen_table params.now) at name.now.items (seen_expr e.now) (bound_worth (seen_table given.now) local name.now.items)) }
+    ensures { Gives seen_value result (worth_in (seen_table given.now) (seen_table params.now) at
+        name.now.items (seen_expr e.now) (bound_worth (seen_table given.now) local name.now.items)) }
 {
     match bound_value(given, local, name) {
         Some(value) => {
@@ -55,7 +57,8 @@ fn add_parameter(
     local: bool,
     e: &Expr,
 ) -> Result<(), ElabFault>
-    ensures { Gives (λ u. seen_table params.new) result (with_parameter (seen_table given.now) (seen_table params.old) (seen_item item.now) (AParameter local (seen_expr e.now))) }
+    ensures { Gives (λ u. seen_table params.new) result (with_parameter (seen_table given.now)
+        (seen_table params.old) (seen_item item.now) (AParameter local (seen_expr e.now))) }
 {
     let value = value_of(alloc, given, params, item.at, &item.name, local, e)?;
     params.insert(alloc, item.name.as_slice(), value)?;
@@ -69,7 +72,8 @@ fn with_parameter(
     params: ParamTable,
     item: &Item,
 ) -> Result<ParamTable, ElabFault>
-    ensures { Gives seen_table result (with_parameter (seen_table given.now) (seen_table params) (seen_item item.now) (seen_what item.now.what)) }
+    ensures { Gives seen_table result (with_parameter (seen_table given.now) (seen_table params)
+        (seen_item item.now) (seen_what item.now.what)) }
 {
     match &item.what {
         What::Parameter { local, value } => {
@@ -92,7 +96,8 @@ pub fn parameters(
     given: &ParamTable,
     items: &[Item],
 ) -> Result<ParamTable, ElabFault>
-    ensures { Gives seen_table result (over (λ ps item. with_parameter (seen_table given.now) ps item item.what) [] (map seen_item items.now)) }
+    ensures { Gives seen_table result (over
+        (λ ps item. with_parameter (seen_table given.now) ps item item.what) [] (map seen_item items.now)) }
 {
     let mut params = ParamTable::new(alloc);
     for item in items {

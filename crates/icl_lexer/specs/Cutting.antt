@@ -1,5 +1,6 @@
 -- How an ICL text is cut into pieces, its tokens and the gaps between them (IEEE 1687-2014).
-use Rattle.std.specs.Prelude.{◌≡◌, ◌≢◌, ℕ, ◌+◌, ◌<◌, ◌≤◌, ◌==◌, Bool, true, false, ◌&&◌, ◌||◌, cond, List, [], ◌∷◌, ◌++◌, length, take, Some, None}
+use Rattle.std.specs.Prelude.{◌≡◌, ◌≢◌, ℕ, ◌+◌, ◌<◌, ◌≤◌, ◌==◌, Bool, true, false, ◌&&◌, ◌||◌, cond, List, []}
+use Rattle.std.specs.Prelude.{◌∷◌, ◌++◌, length, take, Some, None}
 use Rattle.ij_text.specs.declared.Place.{Place}
 use Rattle.ij_text.specs.Places.{first_place, place_after}
 use Rattle.icl_lexer.specs.Token.{Token}
@@ -23,8 +24,8 @@ opens_comment [] = false
 opens_comment (a ∷ []) = false
 opens_comment (a ∷ b ∷ bs) = a == 47 && (b == 47 || b == 42)
 
--- the first `len` bytes of the text are a piece of this kind, and no more of its bytes are one; a `/` that begins a
--- comment is no mark
+-- the first `len` bytes of the text are a piece of this kind, and no more of its bytes are one; a `/` that
+-- begins a comment is no mark
 pub record IsPiece (text : List ℕ) (kind : PieceKind) (len : ℕ) : Type 0 where
   pub within : len ≤ length text
   pub one : kind_of (take len text) ≡ Some kind
@@ -65,21 +66,25 @@ token_of (Is kind) at start end = record { kind = kind; at = at; start = start; 
 abbrev pub tokens_from : ℕ → Place → List Piece → List Token
 tokens_from start at [] = []
 tokens_from start at (p ∷ ps) =
-    token_of p.kind at start (start + length p.bytes) ++ tokens_from (start + length p.bytes) (place_after at p.bytes) ps
+    token_of p.kind at start (start + length p.bytes)
+    ++ tokens_from (start + length p.bytes) (place_after at p.bytes) ps
 
 abbrev pub Tokens : Type 0
 Tokens = List Token
 
 -- the tokens of a whole text
 abbrev pub AreTokens : List ℕ → List Token → Type 0
-AreTokens text tokens = (pieces : List Piece) × (IsCutUpTo text pieces []) × (tokens ≡ tokens_from 0 first_place pieces)
+AreTokens text tokens = (pieces : List Piece) × (IsCutUpTo text pieces [])
+    × (tokens ≡ tokens_from 0 first_place pieces)
 
 -- ---- faults
 
--- the fault of a text that begins with no piece, with its place: a `"` (34) begins quoted text, `/*` a comment
+-- the fault of a text that begins with no piece, with its place: a `"` (34) begins quoted text, `/*` a
+-- comment
 abbrev pub fault_of : List ℕ → Place → LexFault
 fault_of [] at = BadByte at
-fault_of (b ∷ bs) at = cond (b == 34) (OpenText at) (cond (opens_block (b ∷ bs)) (OpenComment at) (BadByte at))
+fault_of (b ∷ bs) at =
+    cond (b == 34) (OpenText at) (cond (opens_block (b ∷ bs)) (OpenComment at) (BadByte at))
 
 -- the text is cut up to a rest that begins with no piece, where this fault stands
 pub record HasFault (text : List ℕ) (fault : LexFault) : Type 0 where

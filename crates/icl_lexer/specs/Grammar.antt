@@ -1,5 +1,7 @@
--- The grammar of expressions, signals and bodies (IEEE 1687-2014, as far as it is read here): one definition for each production.
-use Rattle.std.specs.Prelude.{ℕ, zero, suc, ◌+◌, ◌-◌, Bool, true, false, ◌&&◌, not, cond, List, [], ◌∷◌, ◌++◌, length, drop, slice_range, Option, Some, None}
+-- The grammar of expressions, signals and bodies (IEEE 1687-2014, as far as it is read here): one definition
+-- for each production.
+use Rattle.std.specs.Prelude.{ℕ, zero, suc, ◌+◌, ◌-◌, Bool, true, false, ◌&&◌, not, cond, List, [], ◌∷◌, ◌++◌}
+use Rattle.std.specs.Prelude.{length, drop, slice_range, Option, Some, None}
 use Rattle.ij_text.specs.Symbol.{Symbol, one, give, none, barred, ◌>>=◌, ◌<|>◌, repeat, appended, maybe}
 use Rattle.ij_text.specs.declared.Place.{Place}
 use Rattle.icl_lexer.specs.declared.token.TokenKind.{TokenKind}
@@ -9,13 +11,19 @@ use Rattle.icl_lexer.specs.declared.tree.Sign.TheVariants.{Plus, Minus, Times, O
 use Rattle.icl_lexer.specs.declared.words.Limit.{Limit}
 use Rattle.icl_lexer.specs.declared.words.Limit.TheVariants.{OfExpression}
 use Rattle.icl_lexer.specs.declared.words.BodyKind.{BodyKind}
-use Rattle.icl_lexer.specs.declared.words.BodyKind.TheVariants.{ScanIn, ScanOut, DataIn, DataOut, Control, Register, Alias}
+use Rattle.icl_lexer.specs.declared.words.BodyKind.TheVariants.{ScanIn, ScanOut, DataIn, DataOut, Control}
+use Rattle.icl_lexer.specs.declared.words.BodyKind.TheVariants.{Register, Alias}
 use Rattle.icl_lexer.specs.declared.words.PropKeyword.{PropKeyword}
-use Rattle.icl_lexer.specs.declared.words.PropKeyword.TheVariants.{Source, LaunchEdge, DefaultLoadValue, RefEnum, ActivePolarity, ScanInSource, CaptureSource, ResetValue, AccessTogether, Attribute}
+use Rattle.icl_lexer.specs.declared.words.PropKeyword.TheVariants.{Source, LaunchEdge, DefaultLoadValue}
+use Rattle.icl_lexer.specs.declared.words.PropKeyword.TheVariants.{RefEnum, ActivePolarity, ScanInSource}
+use Rattle.icl_lexer.specs.declared.words.PropKeyword.TheVariants.{CaptureSource, ResetValue, AccessTogether}
+use Rattle.icl_lexer.specs.declared.words.PropKeyword.TheVariants.{Attribute}
 use Rattle.icl_lexer.specs.Seen.{SeenToken, if_word, is_mark, mark_at, word_at, name_at}
 use Rattle.icl_lexer.specs.Tokens.{decimal_of, decimal_at}
 use Rattle.icl_lexer.specs.Words.{prop_named}
-use Rattle.icl_lexer.specs.Values.{SeenExpr, ADecimal, ASized, AQuoted, AParam, AnOp, SeenRange, SeenSigWhat, ANumber, APath, SeenSig, SeenProp, ASource, ALaunchEdge, ALoadValue, ARefEnum, APolarity, AScanInSource, ACaptureSource, AResetValue, ATogether}
+use Rattle.icl_lexer.specs.Values.{SeenExpr, ADecimal, ASized, AQuoted, AParam, AnOp, SeenRange, SeenSigWhat}
+use Rattle.icl_lexer.specs.Values.{ANumber, APath, SeenSig, SeenProp, ASource, ALaunchEdge, ALoadValue}
+use Rattle.icl_lexer.specs.Values.{ARefEnum, APolarity, AScanInSource, ACaptureSource, AResetValue, ATogether}
 
 abbrev pub Of : Type 0 → Type 1
 Of A = Symbol SeenToken Limit A
@@ -32,8 +40,8 @@ name = one name_at
 
 -- ---- expressions
 
--- an expression; how many operators its outermost expression has up to here; and whether it is a sized number, after
--- which its innermost expression can't go on
+-- an expression; how many operators its outermost expression has up to here; and whether it is a sized
+-- number, after which its innermost expression can't go on
 pub record Counted : Type 0 where
   pub formula : SeenExpr
   pub used : ℕ
@@ -61,7 +69,8 @@ abbrev pub leaf_of : Bool → ℕ → TokenKind → Place → List ℕ → Optio
 leaf_of alone used Decimal at text = with_count used (as_decimal (decimal_of text))
 leaf_of alone used Param at text = with_count used (Some (AParam at (drop 1 text)))
 leaf_of alone used Quoted at text = with_count used (Some (AQuoted (slice_range text 1 (length text - 1))))
-leaf_of alone used Sized at text = cond alone (Some (record { formula = ASized text; used = used; lone = true })) None
+leaf_of alone used Sized at text =
+    cond alone (Some (record { formula = ASized text; used = used; lone = true })) None
 leaf_of alone used Word at text = None
 leaf_of alone used Mark at text = None
 
@@ -74,12 +83,14 @@ pub record Signed : Type 0 where
   pub at : Place
 
 abbrev pub sum_sign : SeenToken → Option Signed
-sum_sign t = cond (is_mark 43 t) (Some (record { sign = Plus; at = t.at })) (cond (is_mark 45 t) (Some (record { sign = Minus; at = t.at })) None)
+sum_sign t = cond (is_mark 43 t) (Some (record { sign = Plus; at = t.at }))
+    (cond (is_mark 45 t) (Some (record { sign = Minus; at = t.at })) None)
 
 abbrev pub product_sign : SeenToken → Option Signed
 product_sign t =
     cond (is_mark 42 t) (Some (record { sign = Times; at = t.at }))
-    (cond (is_mark 47 t) (Some (record { sign = Over; at = t.at })) (cond (is_mark 37 t) (Some (record { sign = Rest; at = t.at })) None))
+    (cond (is_mark 47 t) (Some (record { sign = Over; at = t.at }))
+    (cond (is_mark 37 t) (Some (record { sign = Rest; at = t.at })) None))
 
 -- one operator more than there may be
 abbrev pub too_many : Option Signed → Option Limit
@@ -98,7 +109,11 @@ pub record Operand : Type 0 where
   pub right : Counted
 
 abbrev pub with_operand : Counted → Operand → Counted
-with_operand a o = record { formula = AnOp o.sign.at o.sign.sign a.formula o.right.formula; used = o.right.used; lone = false }
+with_operand a o = record {
+  formula = AnOp o.sign.at o.sign.sign a.formula o.right.formula;
+  used = o.right.used;
+  lone = false;
+}
 
 abbrev pub operand : (ℕ → Of Counted) → (SeenToken → Option Signed) → Counted → Of Operand
 operand part sign a = do
@@ -126,7 +141,8 @@ too_deep t = cond (is_mark 40 t) (Some OfExpression) None
 unfoldable pub factor : ℕ → Bool → ℕ → Of Counted
 factor zero alone used = barred too_deep <|> one (leaf_at alone used)
 factor (suc depth) alone used =
-    in_parentheses (chain (chain (factor depth true) (factor depth false) product_sign) (chain (factor depth false) (factor depth false) product_sign) sum_sign) used
+    in_parentheses (chain (chain (factor depth true) (factor depth false) product_sign)
+    (chain (factor depth false) (factor depth false) product_sign) sum_sign) used
     <|> one (leaf_at alone used)
 
 abbrev pub term : ℕ → Bool → ℕ → Of Counted
@@ -318,4 +334,5 @@ abbrev pub body_end : BodyKind → List SeenProp → ℕ → Of (List SeenProp)
 body_end owner ps c = cond (lacks owner ps) none (mark c >>= λ e. give ps)
 
 unfoldable pub body : BodyKind → Of (List SeenProp)
-body owner = body_end owner [] 59 <|> (mark 123 >>= λ o. repeat (property owner) with_property [] >>= λ ps. body_end owner ps 125)
+body owner = body_end owner [] 59 <|>
+    (mark 123 >>= λ o. repeat (property owner) with_property [] >>= λ ps. body_end owner ps 125)

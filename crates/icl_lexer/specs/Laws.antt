@@ -9,22 +9,26 @@ use Rattle.icl_lexer.specs.Cutting.{Piece, IsCutUpTo, AreTokens, HasFault}
 
 -- a text is cut into pieces in one way at most
 abbrev pub TokenizationIsUnique : Type 0
-TokenizationIsUnique = (text : List ℕ) (pieces others : List Piece) → IsCutUpTo text pieces [] → IsCutUpTo text others [] → pieces ≡ others
+TokenizationIsUnique = (text : List ℕ) (pieces others : List Piece) → IsCutUpTo text pieces []
+    → IsCutUpTo text others [] → pieces ≡ others
 
 -- a text that isn't cut into pieces has a fault
 abbrev pub TextsAreCutOrAtFault : Type 0
-TextsAreCutOrAtFault = (text : List ℕ) → ((tokens : List Token) × (AreTokens text tokens)) ⊎ ((fault : LexFault) × (HasFault text fault))
+TextsAreCutOrAtFault = (text : List ℕ)
+    → ((tokens : List Token) × (AreTokens text tokens)) ⊎ ((fault : LexFault) × (HasFault text fault))
 
 -- a text that is cut into pieces has no fault
 abbrev pub CutTextsHaveNoFault : Type 0
-CutTextsHaveNoFault = (text : List ℕ) (tokens : List Token) (fault : LexFault) → AreTokens text tokens → HasFault text fault → ⊥
+CutTextsHaveNoFault = (text : List ℕ) (tokens : List Token) (fault : LexFault)
+    → AreTokens text tokens → HasFault text fault → ⊥
 
 -- a text has one fault at most
 abbrev pub FaultsAreOne : Type 0
-FaultsAreOne = (text : List ℕ) (fault other : LexFault) → HasFault text fault → HasFault text other → fault ≡ other
+FaultsAreOne = (text : List ℕ) (fault other : LexFault)
+    → HasFault text fault → HasFault text other → fault ≡ other
 
--- the tokens stand in the text one after the other from a byte on, each with its place, and the bytes of each are a
--- piece of its kind
+-- the tokens stand in the text one after the other from a byte on, each with its place, and the bytes of each
+-- are a piece of its kind
 abbrev pub AreInText : List ℕ → ℕ → List Token → Type 0
 AreInText text from [] = from ≤ length text
 AreInText text from (t ∷ ts) =

@@ -12,7 +12,8 @@ tok l = record { kind = l.kind; at = l.at; text = l.text.now }
 -- a token at a place, and those of the text after it
 abbrev pub tokens_at_hand : Option TokenKind → Place → List ℕ → List ℕ → List SeenToken
 tokens_at_hand None at text after = []
-tokens_at_hand (Some kind) at text after = record { kind = kind; at = at; text = text } ∷ tokens_in after (place_after at text)
+tokens_at_hand (Some kind) at text after =
+    record { kind = kind; at = at; text = text } ∷ tokens_in after (place_after at text)
 
 -- the places of so many bytes from a place on, and the one after them, are below 2^32
 abbrev pub HasPlaces : Place → ℕ → Type 0

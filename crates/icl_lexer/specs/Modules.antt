@@ -1,22 +1,31 @@
--- The grammar of items, modules and designs (IEEE 1687-2014, as far as it is read here): one definition for each production.
+-- The grammar of items, modules and designs (IEEE 1687-2014, as far as it is read here): one definition for
+-- each production.
 use Rattle.std.specs.Prelude.{ℕ, Bool, List, [], ◌∷◌, ◌++◌, Option, Some, None, codes}
 use Rattle.ij_text.specs.Symbol.{one, give, ◌>>=◌, ◌<|>◌, repeat, many, appended, maybe}
 use Rattle.ij_text.specs.declared.Place.{Place}
 use Rattle.icl_lexer.specs.declared.tree.LinkKind.{LinkKind}
 use Rattle.icl_lexer.specs.declared.tree.PortKind.{PortKind}
-use Rattle.icl_lexer.specs.declared.tree.PortKind.TheVariants.{ScanInPort, ScanOutPort, DataInPort, DataOutPort}
+use Rattle.icl_lexer.specs.declared.tree.PortKind.TheVariants.{ScanInPort, ScanOutPort, DataInPort}
+use Rattle.icl_lexer.specs.declared.tree.PortKind.TheVariants.{DataOutPort}
 use Rattle.icl_lexer.specs.declared.words.ItemKeyword.{ItemKeyword}
-use Rattle.icl_lexer.specs.declared.words.ItemKeyword.TheVariants.{OfPort, OfRegister, OfMux, OfChild, OfAlias, OfEnum, OfParameter, OfAttribute, OfInterface, OfLink}
+use Rattle.icl_lexer.specs.declared.words.ItemKeyword.TheVariants.{OfPort, OfRegister, OfMux, OfChild}
+use Rattle.icl_lexer.specs.declared.words.ItemKeyword.TheVariants.{OfAlias, OfEnum, OfParameter, OfAttribute}
+use Rattle.icl_lexer.specs.declared.words.ItemKeyword.TheVariants.{OfInterface, OfLink}
 use Rattle.icl_lexer.specs.declared.words.BindKeyword.{BindKeyword}
 use Rattle.icl_lexer.specs.declared.words.BindKeyword.TheVariants.{BindsPort, BindsParameter, BindsAttribute}
 use Rattle.icl_lexer.specs.declared.words.MemberKeyword.{MemberKeyword}
 use Rattle.icl_lexer.specs.declared.words.MemberKeyword.TheVariants.{MemberPort, MemberAttribute}
 use Rattle.icl_lexer.specs.declared.words.BodyKind.{BodyKind}
-use Rattle.icl_lexer.specs.declared.words.BodyKind.TheVariants.{ScanIn, ScanOut, DataIn, DataOut, Control, Register, Alias}
+use Rattle.icl_lexer.specs.declared.words.BodyKind.TheVariants.{ScanIn, ScanOut, DataIn, DataOut, Control}
+use Rattle.icl_lexer.specs.declared.words.BodyKind.TheVariants.{Register, Alias}
 use Rattle.icl_lexer.specs.Seen.{SeenToken, if_word}
 use Rattle.icl_lexer.specs.Words.{item_named, bind_named, member_named, link_named}
-use Rattle.icl_lexer.specs.Values.{SeenRange, SeenRow, SeenBind, ABoundPort, ABoundParameter, ABoundAttribute, SeenEnumWord, SeenLinkInstr, SeenWhat, APort, ARegister, AMux, AChild, AnAlias, SomeWords, AParameter, AnInterface, ALink, AnAttribute, SeenItem, SeenModule}
-use Rattle.icl_lexer.specs.Grammar.{Of, mark, word, name, expr_after, value, parted, ended_by, range, sig, sigs, body, attribute_said}
+use Rattle.icl_lexer.specs.Values.{SeenRange, SeenRow, SeenBind, ABoundPort, ABoundParameter, ABoundAttribute}
+use Rattle.icl_lexer.specs.Values.{SeenEnumWord, SeenLinkInstr, SeenWhat, APort, ARegister, AMux, AChild}
+use Rattle.icl_lexer.specs.Values.{AnAlias, SomeWords, AParameter, AnInterface, ALink, AnAttribute, SeenItem}
+use Rattle.icl_lexer.specs.Values.{SeenModule}
+use Rattle.icl_lexer.specs.Grammar.{Of, mark, word, name, expr_after, value, parted, ended_by, range, sig}
+use Rattle.icl_lexer.specs.Grammar.{sigs, body, attribute_said}
 
 -- ---- ports
 

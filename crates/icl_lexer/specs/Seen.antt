@@ -1,5 +1,6 @@
 -- Tokens with their texts, tests on one token, and the tokens of a text in order.
-use Rattle.std.specs.Prelude.{◌≡◌, ℕ, zero, suc, ◌==◌, Bool, false, ◌&&◌, ◌++◌, cond, List, [], ◌∷◌, map, length, take, drop, slice_range, Option, Some, None}
+use Rattle.std.specs.Prelude.{◌≡◌, ℕ, zero, suc, ◌==◌, Bool, false, ◌&&◌, ◌++◌, cond, List, [], ◌∷◌, map}
+use Rattle.std.specs.Prelude.{length, take, drop, slice_range, Option, Some, None}
 use Rattle.std.specs.Str.{bytes_eq}
 use Rattle.ij_text.specs.declared.Place.{Place}
 use Rattle.ij_text.specs.Places.{place_after}
@@ -80,17 +81,20 @@ seen_piece Gap at bytes = []
 seen_piece (Is kind) at bytes = record { kind = kind; at = at; text = bytes } ∷ []
 
 -- the tokens from a piece on, told those after it
-abbrev pub tokens_of_front : (List ℕ → Place → List SeenToken) → List ℕ → Place → Option Match → List SeenToken
+abbrev pub tokens_of_front : (List ℕ → Place → List SeenToken)
+    → List ℕ → Place → Option Match → List SeenToken
 tokens_of_front next text at None = []
 tokens_of_front next text at (Some found) =
-    seen_piece found.kind at (take found.len text) ++ next (drop found.len text) (place_after at (take found.len text))
+    seen_piece found.kind at (take found.len text)
+    ++ next (drop found.len text) (place_after at (take found.len text))
 
 -- the tokens of so many pieces at most, at the front of a text that stands at a place
 unfoldable pub tokens_within : ℕ → List ℕ → Place → List SeenToken
 tokens_within zero text at = []
 tokens_within (suc n) text at = tokens_of_front (tokens_within n) text at (front text)
 
--- the tokens of a text at a place, up to its end or to what begins no piece; each piece has a byte, so there are no more pieces than bytes
+-- the tokens of a text at a place, up to its end or to what begins no piece; each piece has a byte, so there
+-- are no more pieces than bytes
 unfoldable pub tokens_in : List ℕ → Place → List SeenToken
 tokens_in text at = tokens_within (length text) text at
 

@@ -5,8 +5,11 @@ use Rattle.icl_lexer.specs.declared.token.TokenKind.TheVariants.{Word as OfWord,
 use Rattle.icl_lexer.specs.declared.token.PieceKind.{PieceKind}
 use Rattle.icl_lexer.specs.declared.token.PieceKind.TheVariants.{Gap, Is}
 use Rattle.icl_lexer.specs.declared.state.State.{State}
-use Rattle.icl_lexer.specs.declared.state.State.TheVariants.{Start, Whole, Word, Decimal, Dollar, Parameter, Apostrophe, Base, Digits, Quoted, Backslash, Slash, Line, Block, Star, Dead}
-use Rattle.icl_lexer.specs.Pieces.{kind_of, ends, run, in_digits, in_line, decimal, dollar, parameter, base, digits, quoted, slash, block, is_mark}
+use Rattle.icl_lexer.specs.declared.state.State.TheVariants.{Start, Whole, Word, Decimal, Dollar, Parameter}
+use Rattle.icl_lexer.specs.declared.state.State.TheVariants.{Apostrophe, Base, Digits, Quoted, Backslash}
+use Rattle.icl_lexer.specs.declared.state.State.TheVariants.{Slash, Line, Block, Star, Dead}
+use Rattle.icl_lexer.specs.Pieces.{kind_of, ends, run, in_digits, in_line, decimal, dollar, parameter, base}
+use Rattle.icl_lexer.specs.Pieces.{digits, quoted, slash, block, is_mark}
 
 -- what a byte and those after it are as a piece, where it begins no gap, word or decimal
 abbrev pub kind_of_other : ℕ → List ℕ → Option PieceKind

@@ -22,5 +22,7 @@ decimal_at Mark text = None
 
 unfoldable pub is_left_out : List ℕ → Bool
 is_left_out text =
-    is_one_of (codes "DataRegister" ∷ codes "DataMux" ∷ codes "ClockMux" ∷ codes "LogicSignal" ∷ codes "OneHotScanGroup" ∷ codes "OneHotDataGroup"
-    ∷ codes "NameSpace" ∷ codes "UseNameSpace" ∷ codes "AddressPort" ∷ codes "WriteEnPort" ∷ codes "ReadEnPort" ∷ codes "Chain" ∷ []) text
+    is_one_of (codes "DataRegister" ∷ codes "DataMux" ∷ codes "ClockMux" ∷ codes "LogicSignal"
+    ∷ codes "OneHotScanGroup" ∷ codes "OneHotDataGroup"
+    ∷ codes "NameSpace" ∷ codes "UseNameSpace" ∷ codes "AddressPort" ∷ codes "WriteEnPort"
+    ∷ codes "ReadEnPort" ∷ codes "Chain" ∷ []) text

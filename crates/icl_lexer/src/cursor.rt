@@ -36,7 +36,8 @@ impl<'a> Model for Cursor<'a> {
 
     ghost view = { λ c. tokens_at_hand c.kind c.at c.text.now c.after.now };
 
-    ghost invariant = { λ c. (c.left ≡ length (tokens_at_hand c.kind c.at c.text.now c.after.now)) × HasPlaces c.at (length c.text.now + length c.after.now) };
+    ghost invariant = { λ c. (c.left ≡ length (tokens_at_hand c.kind c.at c.text.now c.after.now))
+        × HasPlaces c.at (length c.text.now + length c.after.now) };
 }
 
 /// The tokens of a text that stands at a place, of which there are so many.

@@ -1,8 +1,9 @@
 // What follows from the definition of a cutting.
-ghost use Rattle.icl_lexer.specs.Laws.{CutTextsHaveNoFault, FaultsAreOne, TextsAreCutOrAtFault, TokenizationIsUnique, TokensAreInText};
+ghost use Rattle.icl_lexer.specs.Laws.{CutTextsHaveNoFault, FaultsAreOne, TextsAreCutOrAtFault};
+ghost use Rattle.icl_lexer.specs.Laws.{TokenizationIsUnique, TokensAreInText};
 
-/// A text is cut into pieces in one way at most, so it has at most one list of tokens. The pieces together are the text,
-/// and each is the longest that begins at its place.
+/// A text is cut into pieces in one way at most, so it has at most one list of tokens. The pieces together
+/// are the text, and each is the longest that begins at its place.
 pub fn tokenization_is_unique()
     ensures { TokenizationIsUnique }
 {}
@@ -14,8 +15,8 @@ pub fn texts_are_cut_or_at_fault()
     ensures one { FaultsAreOne }
 {}
 
-/// The tokens of a text stand in it one after the other, each with the place of its first byte, and the bytes of each
-/// are a piece of its kind.
+/// The tokens of a text stand in it one after the other, each with the place of its first byte, and the bytes
+/// of each are a piece of its kind.
 pub fn tokens_are_in_the_text()
     ensures { TokensAreInText }
 {}

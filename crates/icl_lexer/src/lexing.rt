@@ -53,20 +53,22 @@ fn count(src: &[u8]) -> Result<usize, LexFault>
 
 /// Cuts a text of ICL (IEEE 1687-2014) into tokens, which are read one after the other.
 ///
-/// Between two tokens there may be gaps: spaces, tabs, line ends, comments from `//` to the end of the line, and comments
-/// from `/*` to the next `*/`, which don't nest. Each token and each gap is the longest that begins at its place, and a
-/// `/` that another `/` or a `*` follows is no mark. A carriage return counts as a space.
+/// Between two tokens there may be gaps: spaces, tabs, line ends, comments from `//` to the end of the line,
+/// and comments from `/*` to the next `*/`, which don't nest. Each token and each gap is the longest that
+/// begins at its place, and a `/` that another `/` or a `*` follows is no mark. A carriage return counts as a
+/// space.
 ///
-/// The first fault of the text is answered: `BadByte` where a byte begins no token and no gap, `OpenComment` where a
-/// comment that begins with `/*` has no end, and `OpenText` where quoted text has none. Each has the place where the
-/// byte stands, or the comment or the text begins. Takes no memory: the text is gone through once for its faults, and
-/// then a token is cut when it is reached.
+/// The first fault of the text is answered: `BadByte` where a byte begins no token and no gap, `OpenComment`
+/// where a comment that begins with `/*` has no end, and `OpenText` where quoted text has none. Each has the
+/// place where the byte stands, or the comment or the text begins. Takes no memory: the text is gone through
+/// once for its faults, and then a token is cut when it is reached.
 ///
 /// The text has at most 134,217,728 bytes; a longer one must not be given. An ICL file may have 16,777,216.
 pub fn lex<'a>(src: &'a [u8]) -> Result<Cursor<'a>, LexFault>
     requires { length src.now ≤ 134217728 }
     ensures tokens { IfOk result (λ cursor. HasTokens src.now cursor) }
-    ensures only { (tokens : Tokens) → AreTokens src.now tokens → IfOk result (λ cursor. cursor ≡ seen_tokens src.now tokens) }
+    ensures only { (tokens : Tokens) → AreTokens src.now tokens
+        → IfOk result (λ cursor. cursor ≡ seen_tokens src.now tokens) }
     ensures accepted { (tokens : Tokens) → AreTokens src.now tokens → IsOk result }
     ensures fault { IfErr result (λ fault. HasFault src.now fault) }
     ensures refused { (fault : LexFault) → HasFault src.now fault → IsErrOf result fault }

@@ -1,9 +1,10 @@
-//! The words and the syntax of ICL (IEEE 1687-2014, the part that this compiler reads): [`lex`] cuts a text into tokens,
-//! [`Design`] is the tree of a text, and `specs/` has the grammar that says which tokens give which tree.
+//! The words and the syntax of ICL (IEEE 1687-2014, the part that this compiler reads): [`lex`] cuts a text
+//! into tokens, [`Design`] is the tree of a text, and `specs/` has the grammar that says which tokens give
+//! which tree.
 //!
-//! The grammar is a relation between lists of tokens and trees, one definition for each production (`Grammar` and
-//! `Modules`). A tree appears there as a plain value, without where its parts lie in memory; `Views` has the value of
-//! each tree.
+//! The grammar is a relation between lists of tokens and trees, one definition for each production (`Grammar`
+//! and `Modules`). A tree appears there as a plain value, without where its parts lie in memory; `Views` has
+//! the value of each tree.
 #![tactic(auto)]
 
 mod bytes;

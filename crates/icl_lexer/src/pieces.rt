@@ -67,7 +67,8 @@ fn name_len(text: &[u8]) -> usize
     n
 }
 
-/// The piece with which a text begins, where its first byte tells it: a blank, a word, or a mark that is no `/`.
+/// The piece with which a text begins, where its first byte tells it: a blank, a word, or a mark that is no
+/// `/`.
 #[inline]
 fn short_piece(text: &[u8]) -> Option<Match>
     ensures { IfSome result (λ p. IsPiece text.now p.kind p.len) }

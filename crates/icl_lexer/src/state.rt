@@ -79,7 +79,8 @@ fn begin_other(b: u8) -> State
 
 /// The state after a byte that may go on a decimal or a parameter.
 fn go_on_size(in_class: bool, state: State, b: u8) -> State
-    ensures { (bs : List ℕ) → kind_from result bs ≡ cond in_class (kind_from state bs) (cond (b == 39) (base bs) None) }
+    ensures { (bs : List ℕ)
+        → kind_from result bs ≡ cond in_class (kind_from state bs) (cond (b == 39) (base bs) None) }
 {
     if in_class {
         state

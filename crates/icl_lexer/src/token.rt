@@ -7,8 +7,9 @@ pub enum TokenKind {
     Word,
     /// A digit, and then digits and `_`.
     Decimal,
-    /// A number with a base, as `8'hFF`: a size, which is a decimal or a parameter and may be absent, a `'`, a letter for
-    /// the base, and digits. Any hexadecimal digit, x and `_` may be a digit, whatever the base, the first being no `_`.
+    /// A number with a base, as `8'hFF`: a size, which is a decimal or a parameter and may be absent, a `'`,
+    /// a letter for the base, and digits. Any hexadecimal digit, x and `_` may be a digit, whatever the base,
+    /// the first being no `_`.
     Sized,
     /// Text between two `"`, these included. In it a backslash takes a `"` or a backslash that follows it.
     Quoted,

@@ -23,12 +23,15 @@ seen_fault (Syntax at) = ASyntax at
 
 -- tokens have one design at most
 abbrev pub DesignsAreOne : Type 0
-DesignsAreOne = (tokens : List SeenToken) (d e : List SeenModule) → design.derives tokens d → design.derives tokens e → d ≡ e
+DesignsAreOne = (tokens : List SeenToken) (d e : List SeenModule)
+    → design.derives tokens d → design.derives tokens e → d ≡ e
 
 -- a text is refused in one way at most
 abbrev pub RefusalsAreOne : Type 0
-RefusalsAreOne = (text : List ℕ) (tokens : List SeenToken) (fault other : ParseFault) → IsRefused text tokens fault → IsRefused text tokens other → seen_fault fault ≡ seen_fault other
+RefusalsAreOne = (text : List ℕ) (tokens : List SeenToken) (fault other : ParseFault)
+    → IsRefused text tokens fault → IsRefused text tokens other → seen_fault fault ≡ seen_fault other
 
 -- a text that has a design isn't refused
 abbrev pub DesignsAreNotRefused : Type 0
-DesignsAreNotRefused = (text : List ℕ) (tokens : List SeenToken) (d : List SeenModule) (fault : ParseFault) → design.derives tokens d → IsRefused text tokens fault → ⊥
+DesignsAreNotRefused = (text : List ℕ) (tokens : List SeenToken) (d : List SeenModule) (fault : ParseFault)
+    → design.derives tokens d → IsRefused text tokens fault → ⊥

@@ -34,8 +34,8 @@ IsFaultOf end [] why OutOfMemory = ⊥
 IsFaultOf end [] why (LeftOut at word) = ⊥
 IsFaultOf end [] why (ExprLimit at) = ⊥
 
--- a text with these tokens is refused so: some design's tokens begin with those before, and no design's begin with
--- these and the next one, or they are all and no design has them
+-- a text with these tokens is refused so: some design's tokens begin with those before, and no design's begin
+-- with these and the next one, or they are all and no design has them
 pub record IsRefused (text : List ℕ) (tokens : List SeenToken) (fault : ParseFault) : Type 0 where
   pub front : List SeenToken
   pub rest : List SeenToken

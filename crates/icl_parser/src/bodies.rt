@@ -9,7 +9,9 @@ ghost use Rattle.icl_lexer.specs.Grammar.{is_prop, stands, takes, lacks, with_pr
 ghost use Rattle.icl_expressions.specs.Seen.{seen_read, Gives};
 ghost use Rattle.icl_parser.specs.SeenParts.{seen_said};
 ghost use Rattle.icl_expressions.specs.Reading.{read_put};
-ghost use Rattle.icl_parser.specs.Reading.{read_free_prop, read_attribute_said, read_one_sig, read_sources, read_prop_after, read_property, read_properties, read_body_end, read_braced_body, read_body};
+ghost use Rattle.icl_parser.specs.Reading.{read_free_prop, read_attribute_said, read_one_sig, read_sources};
+ghost use Rattle.icl_parser.specs.Reading.{read_prop_after, read_property, read_properties, read_body_end};
+ghost use Rattle.icl_parser.specs.Reading.{read_braced_body, read_body};
 
 use crate::words::prop_word;
 use icl_expressions::{
@@ -182,7 +184,8 @@ fn read_prop_after<'a>(
     tokens: Cursor<'a>,
 ) -> Result<Parsed<'a, Option<Prop>>, Stop>
     ensures shorter { IfOk result (λ r. length r.rest ≤ length tokens.entry) }
-    ensures gives { Gives (seen_read (option_map seen_prop)) result (read_prop_after owner word tokens.entry) }
+    ensures gives { Gives (seen_read (option_map seen_prop)) result
+        (read_prop_after owner word tokens.entry) }
 {
     match word {
         PropKeyword::Source => {
@@ -235,7 +238,8 @@ fn read_free_prop<'a>(
     tokens: Cursor<'a>,
 ) -> Result<Parsed<'a, PropKeyword>, Stop>
     ensures shorter { IfOk result (λ r. length r.rest < length tokens.entry) }
-    ensures gives { Gives (seen_read same) result (read_free_prop owner (map seen_prop props.now) tokens.entry) }
+    ensures gives { Gives (seen_read same) result
+        (read_free_prop owner (map seen_prop props.now) tokens.entry) }
 {
     let left = tokens.len();
     match tokens.next() {
@@ -256,7 +260,8 @@ fn read_property<'a>(
     tokens: Cursor<'a>,
 ) -> Result<Parsed<'a, Option<Prop>>, Stop>
     ensures shorter { IfOk result (λ r. length r.rest < length tokens.entry) }
-    ensures gives { Gives (seen_read (option_map seen_prop)) result (read_property owner (map seen_prop props.now) tokens.entry) }
+    ensures gives { Gives (seen_read (option_map seen_prop)) result
+        (read_property owner (map seen_prop props.now) tokens.entry) }
 {
     let word = read_free_prop(owner, props, tokens)?;
     let prop = read_prop_after(alloc, owner, word.value, word.rest)?;
@@ -274,7 +279,8 @@ fn with<'a>(
     props: List<Prop>,
     next: Parsed<'a, Option<Prop>>,
 ) -> Result<Parsed<'a, List<Prop>>, OutOfMemory>
-    ensures value { IfOk result (λ r. seen_list seen_prop r.value ≡ with_property (seen_list seen_prop props) (option_map seen_prop next.entry.value)) }
+    ensures value { IfOk result (λ r. seen_list seen_prop r.value
+        ≡ with_property (seen_list seen_prop props) (option_map seen_prop next.entry.value)) }
     ensures rest { IfOk result (λ r. r.rest ≡ next.entry.rest) }
 {
     let rest = next.rest;
@@ -291,7 +297,9 @@ fn with_property<'a>(
     props: Parsed<'a, List<Prop>>,
 ) -> Result<Parsed<'a, List<Prop>>, Stop>
     ensures shorter { IfOk result (λ r. length r.rest < length props.entry.rest) }
-    ensures gives { Gives (seen_read (seen_list seen_prop)) result (read_put (read_property owner (seen_list seen_prop props.entry.value)) with_property (seen_list seen_prop props.entry.value) props.entry.rest) }
+    ensures gives { Gives (seen_read (seen_list seen_prop)) result
+        (read_put (read_property owner (seen_list seen_prop props.entry.value)) with_property
+        (seen_list seen_prop props.entry.value) props.entry.rest) }
 {
     let rest = props.rest;
     let props = props.value;
@@ -329,7 +337,8 @@ fn read_body_end<'a>(
     mark: u8,
 ) -> Result<Parsed<'a, List<Prop>>, Stop>
     ensures shorter { IfOk result (λ r. length r.rest < length tokens.entry) }
-    ensures gives { Gives (seen_read (seen_list seen_prop)) result (read_body_end owner (seen_list seen_prop props) mark tokens.entry) }
+    ensures gives { Gives (seen_read (seen_list seen_prop)) result
+        (read_body_end owner (seen_list seen_prop props) mark tokens.entry) }
 {
     if lacks(owner, props.as_slice()) {
         return Err(Stop::At(tokens.len(), None));

@@ -32,7 +32,8 @@ pub(crate) fn with_next<'a, T: Entry + Drop>(
     entries: Parsed<'a, List<T>>,
 ) -> Result<Parsed<'a, List<T>>, Stop>
     ensures shorter { IfOk result (λ r. length r.rest < length entries.entry.rest) }
-    ensures gives { Gives (seen_read (seen_list T.view)) result (read_put T.reader appended (seen_list T.view entries.entry.value) entries.entry.rest) }
+    ensures gives { Gives (seen_read (seen_list T.view)) result
+        (read_put T.reader appended (seen_list T.view entries.entry.value) entries.entry.rest) }
 {
     let (values, next) = beside(entries.value, T::read(alloc, entries.rest))?;
     Ok(pushed(values, next)?)
@@ -45,7 +46,8 @@ pub(crate) fn read_after<'a, T: Entry + Drop>(
 ) -> Result<Parsed<'a, List<T>>, Stop>
     requires { Shrinks T.reader }
     ensures shorter { IfOk result (λ r. length r.rest ≤ length first.entry.rest) }
-    ensures gives { Gives (seen_read (seen_list T.view)) result (more T.reader (seen_list T.view first.entry.value) first.entry.rest) }
+    ensures gives { Gives (seen_read (seen_list T.view)) result
+        (more T.reader (seen_list T.view first.entry.value) first.entry.rest) }
 {
     let mut entries = first;
     while before_close(&entries.rest) {
@@ -77,7 +79,8 @@ pub(crate) fn read_braced<'a, T: Entry + Drop>(
 ) -> Result<Parsed<'a, List<T>>, Stop>
     requires { Shrinks T.reader }
     ensures shorter { IfOk result (λ r. length r.rest < length tokens.entry) }
-    ensures gives { Gives (seen_read (seen_list T.view)) result (read_braced (read_many T.reader) tokens.entry) }
+    ensures gives { Gives (seen_read (seen_list T.view)) result
+        (read_braced (read_many T.reader) tokens.entry) }
 {
     let open = read_mark(tokens, b'{')?;
     let entries = read_many(alloc, open.rest)?;

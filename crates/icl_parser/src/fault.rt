@@ -5,9 +5,9 @@ ghost use Rattle.icl_parser.specs.declared.fault.ParseFault.TheVariants as fault
 use ij_bits::OutOfMemory;
 use ij_text::{Name, Place};
 
-/// Why a text is refused. All but the want of memory speak of the first token after which no continuation is in the
-/// grammar of ICL (IEEE 1687-2014, as far as it is read here). Where the text ends too early, this is its end, the place
-/// after its last byte.
+/// Why a text is refused. All but the want of memory speak of the first token after which no continuation is
+/// in the grammar of ICL (IEEE 1687-2014, as far as it is read here). Where the text ends too early, this is
+/// its end, the place after its last byte.
 #[derive(Drop)]
 pub enum ParseFault {
     /// There is no memory.

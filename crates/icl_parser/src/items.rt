@@ -7,7 +7,11 @@ ghost use Rattle.icl_lexer.specs.Views.{seen_range, seen_row, seen_bind, seen_wh
 ghost use Rattle.icl_lexer.specs.Modules.{owner_of};
 ghost use Rattle.icl_expressions.specs.Seen.{seen_read, Gives};
 ghost use Rattle.icl_parser.specs.SeenParts.{seen_bind_begin};
-ghost use Rattle.icl_parser.specs.Reading.{read_port_range, read_port, read_register, read_alias, read_parameter, read_attribute, read_row, read_rows, read_mux, read_bound_port, read_bound_parameter, read_bound_attribute, read_bind_after, read_bind_begin, read_bind, read_binds, read_child};
+ghost use Rattle.icl_parser.specs.Reading.{read_port_range, read_port, read_register, read_alias};
+ghost use Rattle.icl_parser.specs.Reading.{read_parameter, read_attribute, read_row, read_rows, read_mux};
+ghost use Rattle.icl_parser.specs.Reading.{read_bound_port, read_bound_parameter, read_bound_attribute};
+ghost use Rattle.icl_parser.specs.Reading.{read_bind_after, read_bind_begin, read_bind, read_binds};
+ghost use Rattle.icl_parser.specs.Reading.{read_child};
 
 use crate::bodies::{read_attribute_said, read_body};
 use crate::entries::{Entry, read_after, read_braced};

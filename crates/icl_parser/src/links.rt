@@ -9,7 +9,10 @@ ghost use Rattle.icl_lexer.specs.Modules.{with_member};
 ghost use Rattle.icl_expressions.specs.Seen.{seen_read, Gives};
 ghost use Rattle.icl_parser.specs.SeenParts.{seen_selected};
 ghost use Rattle.icl_expressions.specs.Reading.{read_put};
-ghost use Rattle.icl_parser.specs.Reading.{read_enum_word, read_words, read_member_word, read_member_after, read_member, read_members, read_interface, read_selected, read_selecting, read_instruction, read_entity, read_link_kind, read_link};
+ghost use Rattle.icl_parser.specs.Reading.{read_enum_word, read_words, read_member_word, read_member_after};
+ghost use Rattle.icl_parser.specs.Reading.{read_member, read_members, read_interface, read_selected};
+ghost use Rattle.icl_parser.specs.Reading.{read_selecting, read_instruction, read_entity, read_link_kind};
+ghost use Rattle.icl_parser.specs.Reading.{read_link};
 
 use crate::bodies::read_attribute_said;
 use crate::entries::{Entry, read_braced, read_many};
@@ -124,7 +127,8 @@ fn with<'a>(
     names: List<SmallText>,
     next: Parsed<'a, Option<SmallText>>,
 ) -> Result<Parsed<'a, List<SmallText>>, OutOfMemory>
-    ensures value { IfOk result (λ r. seen_list bytes_of r.value ≡ with_member (seen_list bytes_of names) (option_map bytes_of next.entry.value)) }
+    ensures value { IfOk result (λ r. seen_list bytes_of r.value
+        ≡ with_member (seen_list bytes_of names) (option_map bytes_of next.entry.value)) }
     ensures rest { IfOk result (λ r. r.rest ≡ next.entry.rest) }
 {
     let rest = next.rest;
@@ -140,7 +144,8 @@ fn with_next_member<'a>(
     names: Parsed<'a, List<SmallText>>,
 ) -> Result<Parsed<'a, List<SmallText>>, Stop>
     ensures shorter { IfOk result (λ r. length r.rest < length names.entry.rest) }
-    ensures gives { Gives (seen_read (seen_list bytes_of)) result (read_put read_member with_member (seen_list bytes_of names.entry.value) names.entry.rest) }
+    ensures gives { Gives (seen_read (seen_list bytes_of)) result
+        (read_put read_member with_member (seen_list bytes_of names.entry.value) names.entry.rest) }
 {
     let (names, next) = beside(names.value, read_member(alloc, names.rest))?;
     Ok(with(names, next)?)

@@ -5,7 +5,8 @@ ghost use Rattle.icl_lexer.specs.Values.{SeenItem, SeenModule};
 ghost use Rattle.icl_lexer.specs.Views.{seen_item, seen_module, seen_what};
 ghost use Rattle.icl_expressions.specs.Seen.{seen_read, Gives};
 ghost use Rattle.icl_parser.specs.SeenParts.{seen_item_begin};
-ghost use Rattle.icl_parser.specs.Reading.{read_item_begin, read_meaning_after, read_item, read_module, whole_design};
+ghost use Rattle.icl_parser.specs.Reading.{read_item_begin, read_meaning_after, read_item, read_module};
+ghost use Rattle.icl_parser.specs.Reading.{whole_design};
 
 use crate::entries::{Entry, read_braced, with_next};
 use crate::items::{

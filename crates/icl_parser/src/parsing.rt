@@ -67,25 +67,28 @@ fn rest_of<'a>(tokens: Cursor<'a>, left: usize) -> Cursor<'a>
     rest
 }
 
-/// The design that these tokens make (IEEE 1687-2014, as far as it is read here). They are those that [`icl_lexer::lex`] gives of the
-/// text; the text itself is looked at for its end alone. Takes memory by `alloc`, for the design or for the word of a fault.
+/// The design that these tokens make (IEEE 1687-2014, as far as it is read here). They are those that
+/// [`icl_lexer::lex`] gives of the text; the text itself is looked at for its end alone. Takes memory by
+/// `alloc`, for the design or for the word of a fault.
 ///
 /// The text has at most 134,217,728 bytes. An ICL file may have 16,777,216.
 ///
 /// # Errors
 ///
-/// A text that isn't in the grammar is refused at the first token after which no continuation is in it, and a text that
-/// ends too early at its end, the place after its last byte: [`ParseFault::LeftOut`] where this token is a word that
-/// this compiler leaves out, [`ParseFault::ExprLimit`] where it is the 65th opening parenthesis inside one another or
-/// the 257th operator of one expression, and [`ParseFault::Syntax`] otherwise. [`ParseFault::OutOfMemory`] may come at
-/// any text.
+/// A text that isn't in the grammar is refused at the first token after which no continuation is in it, and a
+/// text that ends too early at its end, the place after its last byte: [`ParseFault::LeftOut`] where this
+/// token is a word that this compiler leaves out, [`ParseFault::ExprLimit`] where it is the 65th opening
+/// parenthesis inside one another or the 257th operator of one expression, and [`ParseFault::Syntax`]
+/// otherwise. [`ParseFault::OutOfMemory`] may come at any text.
 pub fn parse(alloc: Global, src: &[u8], tokens: Cursor<'_>) -> Result<Design, ParseFault>
     requires length { length src.now ≤ 134217728 }
     // What is answered is derived.
     ensures found { IfOk result (λ d. design.derives tokens.entry (seen_design d)) }
     // What is derived is answered, unless memory runs out.
-    ensures only { (d : Blocks) → design.derives tokens.entry d → IfOk result (λ found. seen_design found ≡ d) }
-    ensures accepted { (d : Blocks) → design.derives tokens.entry d → OnErr result (IsErrOf result ParseFault.OutOfMemory) }
+    ensures only { (d : Blocks) → design.derives tokens.entry d
+        → IfOk result (λ found. seen_design found ≡ d) }
+    ensures accepted { (d : Blocks) → design.derives tokens.entry d
+        → OnErr result (IsErrOf result ParseFault.OutOfMemory) }
     // Each other answer is the fault where the text leaves the grammar.
     ensures refused { IfErr result (OnRefusal src.now tokens.entry) }
 {

@@ -3,7 +3,9 @@ ghost use Rattle.std.specs.Prelude.{◌≡◌, Option};
 ghost use Rattle.std.specs.Str.{bytes_eq};
 ghost use Rattle.icl_lexer.specs.Lexemes.{tok};
 ghost use Rattle.icl_lexer.specs.Tokens.{is_left_out};
-ghost use Rattle.icl_lexer.specs.Words.{data_port_named, control_port_named, to_port_named, port_named, other_item_named, item_named, prop_named, bind_named, member_named, link_named};
+ghost use Rattle.icl_lexer.specs.Words.{data_port_named, control_port_named, to_port_named, port_named};
+ghost use Rattle.icl_lexer.specs.Words.{other_item_named, item_named, prop_named, bind_named, member_named};
+ghost use Rattle.icl_lexer.specs.Words.{link_named};
 ghost use Rattle.icl_lexer.specs.Grammar.{prop_word_at};
 ghost use Rattle.icl_lexer.specs.Modules.{item_word_at, bind_word_at, member_word_at, link_kind_at};
 

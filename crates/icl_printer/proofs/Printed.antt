@@ -1,5 +1,6 @@
 -- How what is printed of a part of a design is derived again, built of the same for its own parts.
-use Rattle.std.proofs.Common.{◌≡◌, ◌==◌, ℕ, true, false, cond, List, [], ◌∷◌, ◌++◌, Option, Some, None, refl, ap, ◌∙◌, subst, append-nil, inl, inr}
+use Rattle.std.proofs.Common.{◌≡◌, ◌==◌, ℕ, true, false, cond, List, [], ◌∷◌, ◌++◌, Option, Some, None, refl}
+use Rattle.std.proofs.Common.{ap, ◌∙◌, subst, append-nil, inl, inr}
 use Rattle.std.specs.Str.{bytes_eq}
 use Rattle.ij_text.specs.declared.Place.{Place}
 use Rattle.ij_text.specs.Symbol.{one, give, ◌>>=◌, ◌<|>◌, IsOne}
@@ -37,7 +38,13 @@ cut us [] y e = record { front = []; back = us; whole = refl; front_is = refl; b
 cut [] (s ∷ x) y e = absurd (cc)
 cut (t ∷ us) (s ∷ x) y e =
     let c = cut us x y (cc) in
-    record { front = t ∷ c.front; back = c.back; whole = ap (λ (z : List SeenToken). t ∷ z) c.whole; front_is = cc; back_is = c.back_is }
+    record {
+      front = t ∷ c.front;
+      back = c.back;
+      whole = ap (λ (z : List SeenToken). t ∷ z) c.whole;
+      front_is = cc;
+      back_is = c.back_is;
+    }
 
 -- ---- what is printed
 
@@ -48,10 +55,13 @@ pub record Printed {A B : Type 0} (S : Of A) (bare : A → B) (cs : List Spellin
 
 -- what is derived is printed so
 abbrev pub Law : {A B : Type 0} → Of A → (A → B) → (A → List Spelling) → Type 0
-Law {A} S bare canon = (ts : List SeenToken) (a : A) → AllSpelled (spellings ts) → S.derives ts a → Printed S bare (canon a) a
+Law {A} S bare canon = (ts : List SeenToken) (a : A) → AllSpelled (spellings ts)
+    → S.derives ts a → Printed S bare (canon a) a
 
-pub p_turn : {A A' B B' : Type 0} {S : Of A} {next : A → Of B} {bare : A → A'} {bare' : B → B'} {x y : List Spelling} {a : A} {b : B}
-    → Printed S bare x a → ((a' : A) → bare a' ≡ bare a → Printed (next a') bare' y b) → Printed (S >>= next) bare' (x ++ y) b
+pub p_turn : {A A' B B' : Type 0} {S : Of A} {next : A → Of B} {bare : A → A'} {bare' : B
+    → B'} {x y : List Spelling} {a : A} {b : B}
+    → Printed S bare x a → ((a' : A) → bare a' ≡ bare a → Printed (next a') bare' y b)
+    → Printed (S >>= next) bare' (x ++ y) b
 p_turn {A} {A'} {B} {B'} {S} {next} {bare} {bare'} {x} {y} {a} {b} p q = record {
   good = all_append x y p.good (q a refl).good;
   again = λ us e.
@@ -69,16 +79,20 @@ pub p_give : {B B' : Type 0} {bare : B → B'} (x b : B) → bare x ≡ bare b �
 p_give x b e = record { good = tt; again = λ us h. (x, (nothing_spelled us h, refl), e) }
 
 -- a last part, and a value of it
-pub p_last : {A A' B B' : Type 0} {S : Of A} {f : A → B} {bare : A → A'} {bare' : B → B'} {x : List Spelling} {a : A} {b : B}
-    → Printed S bare x a → ((a' : A) → bare a' ≡ bare a → bare' (f a') ≡ bare' b) → Printed (S >>= λ a'. give (f a')) bare' x b
+pub p_last : {A A' B B' : Type 0} {S : Of A} {f : A → B} {bare : A → A'} {bare' : B
+    → B'} {x : List Spelling} {a : A} {b : B}
+    → Printed S bare x a → ((a' : A) → bare a' ≡ bare a → bare' (f a') ≡ bare' b)
+    → Printed (S >>= λ a'. give (f a')) bare' x b
 p_last {A} {A'} {B} {B'} {S} {f} {bare} {bare'} {x} {a} {b} p q =
     subst (λ (z : List Spelling). Printed (S >>= λ a'. give (f a')) bare' z b) (append-nil x)
     (p_turn p (λ a' e. p_give (f a') b (q a' e)))
 
-pub p_left : {A A' : Type 0} {S R : Of A} {bare : A → A'} {x : List Spelling} {a : A} → Printed S bare x a → Printed (S <|> R) bare x a
+pub p_left : {A A' : Type 0} {S R : Of A} {bare : A → A'} {x : List Spelling} {a : A}
+    → Printed S bare x a → Printed (S <|> R) bare x a
 p_left p = record { good = p.good; again = λ us e. let r = p.again us e in (r.0, inl r.1, r.2) }
 
-pub p_right : {A A' : Type 0} {S R : Of A} {bare : A → A'} {x : List Spelling} {a : A} → Printed R bare x a → Printed (S <|> R) bare x a
+pub p_right : {A A' : Type 0} {S R : Of A} {bare : A → A'} {x : List Spelling} {a : A}
+    → Printed R bare x a → Printed (S <|> R) bare x a
 p_right p = record { good = p.good; again = λ us e. let r = p.again us e in (r.0, inr r.1, r.2) }
 
 -- ---- single tokens
@@ -88,42 +102,60 @@ pub record Single {A : Type 0} (f : SeenToken → Option A) (ts : List SeenToken
   pub alone : ts ≡ token ∷ []
   pub takes : f token ≡ Some a
 
-pub single : {A : Type 0} (f : SeenToken → Option A) (ts : List SeenToken) (a : A) → IsOne f ts a → Single f ts a
+pub single : {A : Type 0} (f : SeenToken → Option A) (ts : List SeenToken) (a : A)
+    → IsOne f ts a → Single f ts a
 single f [] a h = absurd h
 single f (t ∷ []) a h = record { token = t; alone = refl; takes = h }
 single f (t ∷ u ∷ ts) a h = absurd h
 
-one_spelled : {A A' : Type 0} {f : SeenToken → Option A} {bare : A → A'} (s : Spelling) (a : A) (us : List SeenToken)
-    → ((t : SeenToken) → spelling_of t ≡ s → (x : A) × (f t ≡ Some x) × (bare x ≡ bare a)) → spellings us ≡ s ∷ [] → (x : A) × (IsOne f us x) × (bare x ≡ bare a)
+one_spelled : {A A' : Type 0} {f : SeenToken → Option A} {bare : A
+    → A'} (s : Spelling) (a : A) (us : List SeenToken)
+    → ((t : SeenToken) → spelling_of t ≡ s → (x : A) × (f t ≡ Some x) × (bare x ≡ bare a))
+    → spellings us ≡ s ∷ [] → (x : A) × (IsOne f us x) × (bare x ≡ bare a)
 one_spelled s a [] g e = absurd (cc)
 one_spelled s a (t ∷ []) g e = g t (cc)
 one_spelled s a (t ∷ u ∷ us) g e = absurd (cc)
 
 pub p_one : {A A' : Type 0} {f : SeenToken → Option A} {bare : A → A'} (s : Spelling) (a : A) → IsSpelled s
-    → ((t : SeenToken) → spelling_of t ≡ s → (x : A) × (f t ≡ Some x) × (bare x ≡ bare a)) → Printed (one f) bare (s ∷ []) a
+    → ((t : SeenToken) → spelling_of t ≡ s → (x : A) × (f t ≡ Some x) × (bare x ≡ bare a))
+    → Printed (one f) bare (s ∷ []) a
 p_one s a ok g = record { good = (ok, tt); again = λ us e. one_spelled s a us g e }
 
 -- a place is nothing but a place
 abbrev pub no_place : Place → Unit {0}
 no_place at = tt
 
-pub p_mark : (c : ℕ) (at : Place) → IsSpelled (mark c) → (c == c) ≡ true → Printed (a_mark c) no_place (mark c ∷ []) at
+pub p_mark : (c : ℕ) (at : Place) → IsSpelled (mark c) → (c == c) ≡ true
+    → Printed (a_mark c) no_place (mark c ∷ []) at
 p_mark c at ok same =
     p_one (mark c) at ok
-    (λ t e. (t.at, ap (λ (s : Spelling). cond (if_mark s.kind (is_byte c s.text) false) (Some t.at) None) e ∙ ap (λ b. cond b (Some t.at) None) same, refl))
+    (λ t e. (
+      t.at,
+      ap (λ (s : Spelling). cond (if_mark s.kind (is_byte c s.text) false) (Some t.at) None) e
+          ∙ ap (λ b. cond b (Some t.at) None) same,
+      refl,
+    ))
 
-pub p_word : (w : List ℕ) (at : Place) → IsSpelled (word w) → bytes_eq w w ≡ true → Printed (a_word w) no_place (word w ∷ []) at
+pub p_word : (w : List ℕ) (at : Place) → IsSpelled (word w) → bytes_eq w w ≡ true
+    → Printed (a_word w) no_place (word w ∷ []) at
 p_word w at ok same =
     p_one (word w) at ok
-    (λ t e. (t.at, ap (λ (s : Spelling). cond (if_word s.kind (bytes_eq s.text w) false) (Some t.at) None) e ∙ ap (λ b. cond b (Some t.at) None) same, refl))
+    (λ t e. (
+      t.at,
+      ap (λ (s : Spelling). cond (if_word s.kind (bytes_eq s.text w) false) (Some t.at) None) e
+          ∙ ap (λ b. cond b (Some t.at) None) same,
+      refl,
+    ))
 
 abbrev pub itself : {A : Type 0} → A → A
 itself a = a
 
 pub p_name : (n : List ℕ) → IsSpelled (word n) → Printed name itself (word n ∷ []) n
-p_name n ok = p_one (word n) n ok (λ t e. (n, ap (λ (s : Spelling). if_word s.kind (Some s.text) None) e, refl))
+p_name n ok = p_one (word n) n ok
+    (λ t e. (n, ap (λ (s : Spelling). if_word s.kind (Some s.text) None) e, refl))
 
-word_kind : (k : TokenKind) (text n : List ℕ) → if_word k (Some text) None ≡ Some n → let s : Spelling = record { kind = k; text = text } in s ≡ word n
+word_kind : (k : TokenKind) (text n : List ℕ) → if_word k (Some text) None ≡ Some n
+    → let s : Spelling = record { kind = k; text = text } in s ≡ word n
 word_kind Word text n e = let same : text ≡ n = cc in ap word same
 word_kind Decimal text n e = absurd (cc)
 word_kind Sized text n e = absurd (cc)
@@ -131,10 +163,12 @@ word_kind Quoted text n e = absurd (cc)
 word_kind Param text n e = absurd (cc)
 word_kind Mark text n e = absurd (cc)
 
-pub name_spelled : (ts : List SeenToken) (n : List ℕ) → AllSpelled (spellings ts) → name.derives ts n → IsSpelled (word n)
+pub name_spelled : (ts : List SeenToken) (n : List ℕ) → AllSpelled (spellings ts)
+    → name.derives ts n → IsSpelled (word n)
 name_spelled ts n good h =
     let o = single name_at ts n h in
-    let here : AllSpelled (spellings (o.token ∷ [])) = subst (λ (us : List SeenToken). AllSpelled (spellings us)) o.alone good in
+    let here : AllSpelled (spellings (o.token ∷ [])) =
+    subst (λ (us : List SeenToken). AllSpelled (spellings us)) o.alone good in
     subst IsSpelled (word_kind o.token.kind o.token.text n o.takes) here.0
 
 pub name_law : Law name itself (λ n. word n ∷ [])
@@ -151,21 +185,36 @@ pub record Turned {A B : Type 0} (S : Of A) (next : A → Of B) (b : B) : Type 0
   pub rest : (next value).derives back b
   pub good_rest : AllSpelled (spellings back)
 
-pub turned : {A B : Type 0} (S : Of A) (next : A → Of B) (ts : List SeenToken) (b : B) → AllSpelled (spellings ts) → (S >>= next).derives ts b → Turned S next b
+pub turned : {A B : Type 0} (S : Of A) (next : A → Of B) (ts : List SeenToken) (b : B)
+    → AllSpelled (spellings ts) → (S >>= next).derives ts b → Turned S next b
 turned S next ts b good h =
-    let both : AllSpelled (spellings (h.0 ++ h.1)) = subst (λ (us : List SeenToken). AllSpelled (spellings us)) h.3 good in
-    record { front = h.0; back = h.1; value = h.2; derived = h.4; good = all_front h.0 h.1 both; rest = h.5; good_rest = all_back h.0 h.1 both }
+    let both : AllSpelled (spellings (h.0 ++ h.1)) =
+    subst (λ (us : List SeenToken). AllSpelled (spellings us)) h.3 good in
+    record {
+      front = h.0;
+      back = h.1;
+      value = h.2;
+      derived = h.4;
+      good = all_front h.0 h.1 both;
+      rest = h.5;
+      good_rest = all_back h.0 h.1 both;
+    }
 
 -- a token that is spelled so
 abbrev pub placed : Spelling → Place → SeenToken
 placed s at = record { kind = s.kind; at = at; text = s.text }
 
-pub p_token : {A A' : Type 0} {f : SeenToken → Option A} {bare : A → A'} (s : Spelling) (a : A) (x : Place → A) → IsSpelled s → ((at : Place) → f (placed s at) ≡ Some (x at)) → ((at : Place) → bare (x at) ≡ bare a)
+pub p_token : {A A' : Type 0} {f : SeenToken → Option A} {bare : A
+    → A'} (s : Spelling) (a : A) (x : Place → A) → IsSpelled s
+    → ((at : Place) → f (placed s at) ≡ Some (x at)) → ((at : Place) → bare (x at) ≡ bare a)
     → Printed (one f) bare (s ∷ []) a
-p_token {A} {A'} {f} s a x ok takes same = p_one s a ok (λ t e. (x t.at, ap (λ (r : Spelling). f (placed r t.at)) e ∙ takes t.at, same t.at))
+p_token {A} {A'} {f} s a x ok takes same =
+    p_one s a ok (λ t e. (x t.at, ap (λ (r : Spelling). f (placed r t.at)) e ∙ takes t.at, same t.at))
 
 -- the tokens of both parts are pieces
-pub halves : (front back ts : List SeenToken) → ts ≡ front ++ back → AllSpelled (spellings ts) → (AllSpelled (spellings front)) × (AllSpelled (spellings back))
+pub halves : (front back ts : List SeenToken) → ts ≡ front ++ back → AllSpelled (spellings ts)
+    → (AllSpelled (spellings front)) × (AllSpelled (spellings back))
 halves front back ts is good =
-    let both : AllSpelled (spellings (front ++ back)) = subst (λ (us : List SeenToken). AllSpelled (spellings us)) is good in
+    let both : AllSpelled (spellings (front ++ back)) =
+    subst (λ (us : List SeenToken). AllSpelled (spellings us)) is good in
     (all_front front back both, all_back front back both)

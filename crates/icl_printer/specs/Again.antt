@@ -6,7 +6,12 @@ use Rattle.icl_lexer.specs.declared.token.PieceKind.TheVariants.{Is}
 use Rattle.icl_lexer.specs.Pieces.{kind_of}
 use Rattle.icl_lexer.specs.Cutting.{AreTokens}
 use Rattle.icl_lexer.specs.Seen.{SeenToken, seen_tokens}
-use Rattle.icl_lexer.specs.Values.{SeenExpr, ADecimal, ASized, AQuoted, AParam, AnOp, SeenRange, SeenSigWhat, ANumber, APath, SeenSig, SeenProp, ASource, ALaunchEdge, ALoadValue, ARefEnum, APolarity, AScanInSource, ACaptureSource, AResetValue, ATogether, SeenRow, SeenBind, ABoundPort, ABoundParameter, ABoundAttribute, SeenEnumWord, SeenWhat, APort, ARegister, AMux, AChild, AnAlias, SomeWords, AParameter, AnInterface, ALink, AnAttribute, SeenItem, SeenModule}
+use Rattle.icl_lexer.specs.Values.{SeenExpr, ADecimal, ASized, AQuoted, AParam, AnOp, SeenRange, SeenSigWhat}
+use Rattle.icl_lexer.specs.Values.{ANumber, APath, SeenSig, SeenProp, ASource, ALaunchEdge, ALoadValue}
+use Rattle.icl_lexer.specs.Values.{ARefEnum, APolarity, AScanInSource, ACaptureSource, AResetValue, ATogether}
+use Rattle.icl_lexer.specs.Values.{SeenRow, SeenBind, ABoundPort, ABoundParameter, ABoundAttribute}
+use Rattle.icl_lexer.specs.Values.{SeenEnumWord, SeenWhat, APort, ARegister, AMux, AChild, AnAlias, SomeWords}
+use Rattle.icl_lexer.specs.Values.{AParameter, AnInterface, ALink, AnAttribute, SeenItem, SeenModule}
 use Rattle.icl_lexer.specs.Modules.{design}
 use Rattle.icl_printer.specs.Layout.{Spelling}
 use Rattle.icl_printer.specs.Canonical.{tokens_of, design_text}
@@ -41,7 +46,8 @@ abbrev pub placeless_value : List SeenExpr → List SeenExpr
 placeless_value = map placeless_formula
 
 abbrev pub placeless_span : SeenRange → SeenRange
-placeless_span r = record { at = no_place; left = placeless_formula r.left; right = option_map placeless_formula r.right }
+placeless_span r =
+    record { at = no_place; left = placeless_formula r.left; right = option_map placeless_formula r.right }
 
 abbrev pub placeless_meant : SeenSigWhat → SeenSigWhat
 placeless_meant (ANumber f) = ANumber (placeless_formula f)
@@ -68,7 +74,8 @@ abbrev pub placeless_row : SeenRow → SeenRow
 placeless_row r = record { values = map placeless_value r.values; source = placeless_signal r.source }
 
 abbrev pub placeless_binding : SeenBind → SeenBind
-placeless_binding (ABoundPort at n r ss) = ABoundPort no_place n (option_map placeless_span r) (placeless_signals ss)
+placeless_binding (ABoundPort at n r ss) =
+    ABoundPort no_place n (option_map placeless_span r) (placeless_signals ss)
 placeless_binding (ABoundParameter at n v) = ABoundParameter no_place n (placeless_formula v)
 placeless_binding (ABoundAttribute n v) = ABoundAttribute n (option_map placeless_formula v)
 
@@ -80,7 +87,8 @@ placeless_meaning (APort k r ps) = APort k (option_map placeless_span r) (map pl
 placeless_meaning (ARegister r ps) = ARegister (option_map placeless_span r) (map placeless_property ps)
 placeless_meaning (AMux ss rs) = AMux (placeless_signals ss) (map placeless_row rs)
 placeless_meaning (AChild m bs) = AChild m (map placeless_binding bs)
-placeless_meaning (AnAlias r ss ps) = AnAlias (option_map placeless_span r) (placeless_signals ss) (map placeless_property ps)
+placeless_meaning (AnAlias r ss ps) =
+    AnAlias (option_map placeless_span r) (placeless_signals ss) (map placeless_property ps)
 placeless_meaning (SomeWords ws) = SomeWords (map placeless_word ws)
 placeless_meaning (AParameter local v) = AParameter local (placeless_formula v)
 placeless_meaning (AnInterface ps) = AnInterface ps
@@ -101,12 +109,16 @@ placeless_design d = map placeless_block d
 -- a design that some tokens derive is derived, places aside, by the tokens that it is printed with
 abbrev pub PrintedTokensDeriveIt : Type 0
 PrintedTokensDeriveIt =
-    (read printed : List SeenToken) (d : List SeenModule) → AllSpelled (spellings read) → design.derives read d → spellings printed ≡ tokens_of d
-    → (again : List SeenModule) × (design.derives printed again) × (placeless_design again ≡ placeless_design d)
+    (read printed : List SeenToken) (d : List SeenModule) → AllSpelled (spellings read)
+    → design.derives read d → spellings printed ≡ tokens_of d
+    → (again : List SeenModule) × (design.derives printed again)
+    × (placeless_design again ≡ placeless_design d)
 
 -- a design that was read is read again from the text that is printed of it, places aside
 abbrev pub DesignsAreReadAgain : Type 0
 DesignsAreReadAgain =
-    (src : List ℕ) (tokens : List Token) (d : List SeenModule) → AreTokens src tokens → design.derives (seen_tokens src tokens) d
+    (src : List ℕ) (tokens : List Token) (d : List SeenModule) → AreTokens src tokens
+    → design.derives (seen_tokens src tokens) d
     → (printed : List Token) × (again : List SeenModule) × (AreTokens (design_text d) printed)
-    × (design.derives (seen_tokens (design_text d) printed) again) × (placeless_design again ≡ placeless_design d)
+    × (design.derives (seen_tokens (design_text d) printed) again)
+    × (placeless_design again ≡ placeless_design d)

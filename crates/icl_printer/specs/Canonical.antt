@@ -1,12 +1,19 @@
 -- The tokens of a design, as it is printed.
-use Rattle.std.specs.Prelude.{ℕ, ◌+◌, nat_lt, Bool, true, false, List, [], ◌∷◌, ◌++◌, Option, Some, None, codes, decimal}
+use Rattle.std.specs.Prelude.{ℕ, ◌+◌, nat_lt, Bool, true, false, List, [], ◌∷◌, ◌++◌, Option, Some, None}
+use Rattle.std.specs.Prelude.{codes, decimal}
 use Rattle.icl_lexer.specs.declared.token.TokenKind.TheVariants as kind
 use Rattle.icl_lexer.specs.declared.tree.Sign.{Sign}
 use Rattle.icl_lexer.specs.declared.tree.Sign.TheVariants.{Plus, Minus, Times, Over, Rest}
 use Rattle.icl_lexer.specs.declared.tree.LinkKind.{LinkKind}
 use Rattle.icl_lexer.specs.declared.tree.PortKind.{PortKind}
 use Rattle.icl_lexer.specs.Words.{port_word, link_word}
-use Rattle.icl_lexer.specs.Values.{SeenExpr, ADecimal, ASized, AQuoted, AParam, AnOp, SeenRange, SeenSigWhat, ANumber, APath, SeenSig, SeenProp, ASource, ALaunchEdge, ALoadValue, ARefEnum, APolarity, AScanInSource, ACaptureSource, AResetValue, ATogether, SeenRow, SeenBind, ABoundPort, ABoundParameter, ABoundAttribute, SeenEnumWord, SeenLinkInstr, SeenWhat, APort, ARegister, AMux, AChild, AnAlias, SomeWords, AParameter, AnInterface, ALink, AnAttribute, SeenItem, SeenModule}
+use Rattle.icl_lexer.specs.Values.{SeenExpr, ADecimal, ASized, AQuoted, AParam, AnOp, SeenRange, SeenSigWhat}
+use Rattle.icl_lexer.specs.Values.{ANumber, APath, SeenSig, SeenProp, ASource, ALaunchEdge, ALoadValue}
+use Rattle.icl_lexer.specs.Values.{ARefEnum, APolarity, AScanInSource, ACaptureSource, AResetValue, ATogether}
+use Rattle.icl_lexer.specs.Values.{SeenRow, SeenBind, ABoundPort, ABoundParameter, ABoundAttribute}
+use Rattle.icl_lexer.specs.Values.{SeenEnumWord, SeenLinkInstr, SeenWhat, APort, ARegister, AMux, AChild}
+use Rattle.icl_lexer.specs.Values.{AnAlias, SomeWords, AParameter, AnInterface, ALink, AnAttribute, SeenItem}
+use Rattle.icl_lexer.specs.Values.{SeenModule}
 use Rattle.icl_printer.specs.Layout.{Spelling, word, mark, layout}
 
 -- ---- lists of parts
@@ -51,7 +58,8 @@ binding_of Times = 2
 binding_of Over = 2
 binding_of Rest = 2
 
--- how tightly a formula holds together. A sized number stands alone in its expression, so as an operand it is the loosest
+-- how tightly a formula holds together. A sized number stands alone in its expression, so as an operand it is
+-- the loosest
 abbrev pub binding : SeenExpr → ℕ
 binding (ADecimal n) = 3
 binding (ASized t) = 0
@@ -66,7 +74,8 @@ mark_if true c = mark c ∷ []
 abbrev pub in_parentheses : Bool → List Spelling → List Spelling
 in_parentheses b ts = mark_if b 40 ++ (ts ++ mark_if b 41)
 
--- a formula without parentheses round it. Operators group from the left: so a right operand that binds as tightly has parentheses, and a left one hasn't
+-- a formula without parentheses round it. Operators group from the left: so a right operand that binds as
+-- tightly has parentheses, and a left one hasn't
 abbrev pub formula_tokens : SeenExpr → List Spelling
 formula_tokens (ADecimal n) = record { kind = kind.Decimal; text = decimal n } ∷ []
 formula_tokens (ASized t) = record { kind = kind.Sized; text = t } ∷ []
@@ -81,7 +90,8 @@ abbrev pub value_tokens : List SeenExpr → List Spelling
 value_tokens = separated 44 formula_tokens
 
 abbrev pub range_tokens : SeenRange → List Spelling
-range_tokens r = mark 91 ∷ (formula_tokens r.left ++ (if_there (after 58 formula_tokens) r.right ++ (mark 93 ∷ [])))
+range_tokens r = mark 91
+    ∷ (formula_tokens r.left ++ (if_there (after 58 formula_tokens) r.right ++ (mark 93 ∷ [])))
 
 -- ---- signals
 
@@ -105,7 +115,8 @@ property_tokens (ASource ss) = word (codes "Source") ∷ (signals_tokens ss ++ (
 property_tokens (ALaunchEdge w) = word (codes "LaunchEdge") ∷ word w ∷ mark 59 ∷ []
 property_tokens (ALoadValue v) = word (codes "DefaultLoadValue") ∷ (value_tokens v ++ (mark 59 ∷ []))
 property_tokens (ARefEnum n) = word (codes "RefEnum") ∷ word n ∷ mark 59 ∷ []
-property_tokens (APolarity n) = word (codes "ActivePolarity") ∷ record { kind = kind.Decimal; text = decimal n } ∷ mark 59 ∷ []
+property_tokens (APolarity n) = word (codes "ActivePolarity")
+    ∷ record { kind = kind.Decimal; text = decimal n } ∷ mark 59 ∷ []
 property_tokens (AScanInSource s) = word (codes "ScanInSource") ∷ (signal_tokens s ++ (mark 59 ∷ []))
 property_tokens (ACaptureSource ss) = word (codes "CaptureSource") ∷ (signals_tokens ss ++ (mark 59 ∷ []))
 property_tokens (AResetValue v) = word (codes "ResetValue") ∷ (value_tokens v ++ (mark 59 ∷ []))
@@ -121,13 +132,16 @@ abbrev pub row_tokens : SeenRow → List Spelling
 row_tokens r = separated 124 value_tokens r.values ++ (mark 58 ∷ (signal_tokens r.source ++ (mark 59 ∷ [])))
 
 abbrev pub attribute_tokens : List ℕ → Option SeenExpr → List Spelling
-attribute_tokens n v = word (codes "Attribute") ∷ word n ∷ (if_there (after 61 formula_tokens) v ++ (mark 59 ∷ []))
+attribute_tokens n v = word (codes "Attribute") ∷ word n
+    ∷ (if_there (after 61 formula_tokens) v ++ (mark 59 ∷ []))
 
 abbrev pub port_binding_tokens : List ℕ → Option SeenRange → List SeenSig → List Spelling
-port_binding_tokens n r ss = word (codes "InputPort") ∷ word n ∷ (if_there range_tokens r ++ (mark 61 ∷ (signals_tokens ss ++ (mark 59 ∷ []))))
+port_binding_tokens n r ss = word (codes "InputPort") ∷ word n
+    ∷ (if_there range_tokens r ++ (mark 61 ∷ (signals_tokens ss ++ (mark 59 ∷ []))))
 
 abbrev pub parameter_binding_tokens : List ℕ → SeenExpr → List Spelling
-parameter_binding_tokens n v = word (codes "Parameter") ∷ word n ∷ mark 61 ∷ (formula_tokens v ++ (mark 59 ∷ []))
+parameter_binding_tokens n v = word (codes "Parameter") ∷ word n
+    ∷ mark 61 ∷ (formula_tokens v ++ (mark 59 ∷ []))
 
 abbrev pub binding_tokens : SeenBind → List Spelling
 binding_tokens (ABoundPort at n r ss) = port_binding_tokens n r ss
@@ -142,35 +156,42 @@ member_tokens n = word (codes "Port") ∷ word n ∷ mark 59 ∷ []
 
 abbrev pub instruction_tokens : SeenLinkInstr → List Spelling
 instruction_tokens i =
-    word i.name ∷ mark 123 ∷ word (codes "ScanInterface") ∷ mark 123 ∷ word i.cell ∷ mark 46 ∷ word i.interface ∷ mark 59 ∷ mark 125 ∷ mark 125 ∷ []
+    word i.name ∷ mark 123 ∷ word (codes "ScanInterface") ∷ mark 123 ∷ word i.cell ∷ mark 46
+    ∷ word i.interface ∷ mark 59 ∷ mark 125 ∷ mark 125 ∷ []
 
 abbrev pub port_tokens : List ℕ → PortKind → Option SeenRange → List SeenProp → List Spelling
 port_tokens n k r ps = word (port_word k) ∷ word n ∷ (if_there range_tokens r ++ braced property_tokens ps)
 
 abbrev pub register_tokens : List ℕ → Option SeenRange → List SeenProp → List Spelling
-register_tokens n r ps = word (codes "ScanRegister") ∷ word n ∷ (if_there range_tokens r ++ braced property_tokens ps)
+register_tokens n r ps = word (codes "ScanRegister") ∷ word n
+    ∷ (if_there range_tokens r ++ braced property_tokens ps)
 
 abbrev pub mux_tokens : List ℕ → List SeenSig → List SeenRow → List Spelling
-mux_tokens n ss rs = word (codes "ScanMux") ∷ word n ∷ word (codes "SelectedBy") ∷ (signals_tokens ss ++ (mark 123 ∷ (in_turn row_tokens rs ++ (mark 125 ∷ []))))
+mux_tokens n ss rs = word (codes "ScanMux") ∷ word n ∷ word (codes "SelectedBy")
+    ∷ (signals_tokens ss ++ (mark 123 ∷ (in_turn row_tokens rs ++ (mark 125 ∷ []))))
 
 abbrev pub child_tokens : List ℕ → List ℕ → List SeenBind → List Spelling
 child_tokens n m bs = word (codes "Instance") ∷ word n ∷ word (codes "Of") ∷ word m ∷ braced binding_tokens bs
 
 abbrev pub alias_tokens : List ℕ → Option SeenRange → List SeenSig → List SeenProp → List Spelling
-alias_tokens n r ss ps = word (codes "Alias") ∷ word n ∷ (if_there range_tokens r ++ (mark 61 ∷ (signals_tokens ss ++ braced property_tokens ps)))
+alias_tokens n r ss ps = word (codes "Alias") ∷ word n
+    ∷ (if_there range_tokens r ++ (mark 61 ∷ (signals_tokens ss ++ braced property_tokens ps)))
 
 abbrev pub words_tokens : List ℕ → List SeenEnumWord → List Spelling
 words_tokens n ws = word (codes "Enum") ∷ word n ∷ mark 123 ∷ (in_turn enum_tokens ws ++ (mark 125 ∷ []))
 
 abbrev pub parameter_tokens : List ℕ → Bool → SeenExpr → List Spelling
-parameter_tokens n local v = word (parameter_word local) ∷ word n ∷ mark 61 ∷ (formula_tokens v ++ (mark 59 ∷ []))
+parameter_tokens n local v = word (parameter_word local) ∷ word n
+    ∷ mark 61 ∷ (formula_tokens v ++ (mark 59 ∷ []))
 
 abbrev pub interface_tokens : List ℕ → List (List ℕ) → List Spelling
-interface_tokens n ps = word (codes "ScanInterface") ∷ word n ∷ mark 123 ∷ (in_turn member_tokens ps ++ (mark 125 ∷ []))
+interface_tokens n ps = word (codes "ScanInterface") ∷ word n ∷ mark 123
+    ∷ (in_turn member_tokens ps ++ (mark 125 ∷ []))
 
 abbrev pub link_tokens : List ℕ → LinkKind → List ℕ → List SeenLinkInstr → List Spelling
 link_tokens n k entity is =
-    word (codes "AccessLink") ∷ word n ∷ word (codes "Of") ∷ word (link_word k) ∷ mark 123 ∷ word (codes "BSDLEntity") ∷ word entity ∷ mark 59 ∷ (in_turn instruction_tokens is ++ (mark 125 ∷ []))
+    word (codes "AccessLink") ∷ word n ∷ word (codes "Of") ∷ word (link_word k) ∷ mark 123 ∷ word
+    (codes "BSDLEntity") ∷ word entity ∷ mark 59 ∷ (in_turn instruction_tokens is ++ (mark 125 ∷ []))
 
 -- an item with this name
 abbrev pub item_tokens : List ℕ → SeenWhat → List Spelling
@@ -189,7 +210,8 @@ abbrev pub thing_tokens : SeenItem → List Spelling
 thing_tokens t = item_tokens t.name t.what
 
 abbrev pub module_tokens : SeenModule → List Spelling
-module_tokens m = word (codes "Module") ∷ word m.name ∷ mark 123 ∷ (in_turn thing_tokens m.items ++ (mark 125 ∷ []))
+module_tokens m = word (codes "Module") ∷ word m.name ∷ mark 123
+    ∷ (in_turn thing_tokens m.items ++ (mark 125 ∷ []))
 
 -- ---- a design
 

@@ -2,7 +2,8 @@
 use Rattle.std.specs.Prelude.{[], ◌∷◌, ◌++◌, decimal}
 use Rattle.icl_lexer.specs.declared.token.TokenKind.TheVariants as kind
 use Rattle.icl_printer.specs.declared.token.Piece.{Piece}
-use Rattle.icl_printer.specs.declared.token.Piece.TheVariants.{Word, Name, Mark, Decimal, Sized, Quoted, Param}
+use Rattle.icl_printer.specs.declared.token.Piece.TheVariants.{Word, Name, Mark, Decimal, Sized, Quoted}
+use Rattle.icl_printer.specs.declared.token.Piece.TheVariants.{Param}
 use Rattle.icl_printer.specs.Layout.{Spelling, word, mark}
 
 abbrev pub spelled : Piece → Spelling

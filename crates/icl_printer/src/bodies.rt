@@ -48,8 +48,10 @@ fn word_of(kind: PortKind) -> &'static [u8]
 
 /// Writes a word of the grammar and a name after it.
 pub(crate) fn put_named<K: Sink>(text: &[u8], name: &SmallText, k: &mut K) -> Result<(), StoreFault>
-    ensures whole { OnOk result (Adds (K.taken k.old) (K.taken k.new) (layout (word text.now ∷ word name.now.items ∷ []))) }
-    ensures part { OnErr result (AddsPart (K.taken k.old) (K.taken k.new) (layout (word text.now ∷ word name.now.items ∷ []))) }
+    ensures whole { OnOk result
+        (Adds (K.taken k.old) (K.taken k.new) (layout (word text.now ∷ word name.now.items ∷ []))) }
+    ensures part { OnErr result
+        (AddsPart (K.taken k.old) (K.taken k.new) (layout (word text.now ∷ word name.now.items ∷ []))) }
     ensures cause { HasCause (K.faults k.old) (K.faults k.new) result StoreFault.Failed }
 {
     put_tokens(&[Piece::Word(text), Piece::Name(name)], k)?;
@@ -64,8 +66,10 @@ pub(crate) fn put_port<K: Sink>(
     props: &List<Prop>,
     k: &mut K,
 ) -> Result<(), StoreFault>
-    ensures whole { OnOk result (Adds (K.taken k.old) (K.taken k.new) (layout (port_tokens name.now.items kind (option_map seen_range range.now) (seen_list seen_prop props.now)))) }
-    ensures part { OnErr result (AddsPart (K.taken k.old) (K.taken k.new) (layout (port_tokens name.now.items kind (option_map seen_range range.now) (seen_list seen_prop props.now)))) }
+    ensures whole { OnOk result (Adds (K.taken k.old) (K.taken k.new) (layout (port_tokens name.now.items kind
+        (option_map seen_range range.now) (seen_list seen_prop props.now)))) }
+    ensures part { OnErr result (AddsPart (K.taken k.old) (K.taken k.new) (layout (port_tokens name.now.items
+        kind (option_map seen_range range.now) (seen_list seen_prop props.now)))) }
     ensures cause { HasCause (K.faults k.old) (K.faults k.new) result StoreFault.Failed }
 {
     put_named(word_of(kind), name, k)?;
@@ -81,8 +85,10 @@ pub(crate) fn put_register<K: Sink>(
     props: &List<Prop>,
     k: &mut K,
 ) -> Result<(), StoreFault>
-    ensures whole { OnOk result (Adds (K.taken k.old) (K.taken k.new) (layout (register_tokens name.now.items (option_map seen_range range.now) (seen_list seen_prop props.now)))) }
-    ensures part { OnErr result (AddsPart (K.taken k.old) (K.taken k.new) (layout (register_tokens name.now.items (option_map seen_range range.now) (seen_list seen_prop props.now)))) }
+    ensures whole { OnOk result (Adds (K.taken k.old) (K.taken k.new) (layout
+        (register_tokens name.now.items (option_map seen_range range.now) (seen_list seen_prop props.now)))) }
+    ensures part { OnErr result (AddsPart (K.taken k.old) (K.taken k.new) (layout
+        (register_tokens name.now.items (option_map seen_range range.now) (seen_list seen_prop props.now)))) }
     ensures cause { HasCause (K.faults k.old) (K.faults k.new) result StoreFault.Failed }
 {
     put_named(b"ScanRegister", name, k)?;
@@ -99,8 +105,10 @@ pub(crate) fn put_alias<K: Sink>(
     props: &List<Prop>,
     k: &mut K,
 ) -> Result<(), StoreFault>
-    ensures whole { OnOk result (Adds (K.taken k.old) (K.taken k.new) (layout (alias_tokens name.now.items (option_map seen_range range.now) (seen_list seen_sig sigs.now) (seen_list seen_prop props.now)))) }
-    ensures part { OnErr result (AddsPart (K.taken k.old) (K.taken k.new) (layout (alias_tokens name.now.items (option_map seen_range range.now) (seen_list seen_sig sigs.now) (seen_list seen_prop props.now)))) }
+    ensures whole { OnOk result (Adds (K.taken k.old) (K.taken k.new) (layout (alias_tokens name.now.items
+        (option_map seen_range range.now) (seen_list seen_sig sigs.now) (seen_list seen_prop props.now)))) }
+    ensures part { OnErr result (AddsPart (K.taken k.old) (K.taken k.new) (layout (alias_tokens name.now.items
+        (option_map seen_range range.now) (seen_list seen_sig sigs.now) (seen_list seen_prop props.now)))) }
     ensures cause { HasCause (K.faults k.old) (K.faults k.new) result StoreFault.Failed }
 {
     put_named(b"Alias", name, k)?;

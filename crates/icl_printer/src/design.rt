@@ -37,18 +37,22 @@ impl Put for Module {
     }
 }
 
-/// Writes the text of a design (ICL, IEEE 1687-2014): its tokens in order, with one space between two of them, but with
-/// a line end in place of the space after `;`, `{` and `}`. An operand stands in parentheses only where the tree
-/// couldn't otherwise have it, as the right one of `a - (b - c)`, and a sized number that is an operand. A body without
-/// properties, and an instance without bindings, is written as `;`. A design without modules has no text.
+/// Writes the text of a design (ICL, IEEE 1687-2014): its tokens in order, with one space between two of
+/// them, but with a line end in place of the space after `;`, `{` and `}`. An operand stands in parentheses
+/// only where the tree couldn't otherwise have it, as the right one of `a - (b - c)`, and a sized number that
+/// is an operand. A body without properties, and an instance without bindings, is written as `;`. A design
+/// without modules has no text.
 ///
 /// A design that was read, and is written so, is read again from that text, places aside.
 ///
-/// The refusals are those of the sink, which then took some first bytes of the text. It takes no memory itself.
+/// The refusals are those of the sink, which then took some first bytes of the text. It takes no memory
+/// itself.
 #[tactic(auto, unfolding(crate::specs::Canonical::tokens_of))]
 pub fn put_design<K: Sink>(design: &Design, k: &mut K) -> Result<(), StoreFault>
-    ensures whole { OnOk result (Adds (K.taken k.old) (K.taken k.new) (design_text (seen_design design.now))) }
-    ensures part { OnErr result (AddsPart (K.taken k.old) (K.taken k.new) (design_text (seen_design design.now))) }
+    ensures whole { OnOk result
+        (Adds (K.taken k.old) (K.taken k.new) (design_text (seen_design design.now))) }
+    ensures part { OnErr result
+        (AddsPart (K.taken k.old) (K.taken k.new) (design_text (seen_design design.now))) }
     ensures cause { HasCause (K.faults k.old) (K.faults k.new) result StoreFault.Failed }
 {
     put_all(&design.modules, k)?;

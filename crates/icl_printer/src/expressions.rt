@@ -34,8 +34,8 @@ fn precedence(sign: Sign) -> u8
     }
 }
 
-/// How tightly an expression holds together as an operand. A sized number, which stands alone in its expression, is the
-/// loosest.
+/// How tightly an expression holds together as an operand. A sized number, which stands alone in its
+/// expression, is the loosest.
 fn tightness(expr: &Expr) -> u8
     ensures { result ≡ binding (seen_expr expr.now) }
 {
@@ -55,8 +55,10 @@ fn needs_parentheses(operand: &Expr, least: u8) -> bool
 
 /// Writes an expression, with parentheses round each operand that the tree couldn't otherwise have.
 fn put_expr<K: Sink>(expr: &Expr, k: &mut K) -> Result<(), StoreFault>
-    ensures whole { OnOk result (Adds (K.taken k.old) (K.taken k.new) (layout (formula_tokens (seen_expr expr.now)))) }
-    ensures part { OnErr result (AddsPart (K.taken k.old) (K.taken k.new) (layout (formula_tokens (seen_expr expr.now)))) }
+    ensures whole { OnOk result
+        (Adds (K.taken k.old) (K.taken k.new) (layout (formula_tokens (seen_expr expr.now)))) }
+    ensures part { OnErr result
+        (AddsPart (K.taken k.old) (K.taken k.new) (layout (formula_tokens (seen_expr expr.now)))) }
     ensures cause { HasCause (K.faults k.old) (K.faults k.new) result StoreFault.Failed }
 {
     match expr {

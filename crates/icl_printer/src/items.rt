@@ -5,8 +5,11 @@ ghost use Rattle.ij_io.specs.Bytes.{Adds, AddsPart};
 ghost use Rattle.ij_io.specs.Causes.{HasCause};
 ghost use Rattle.icl_lexer.specs.Words.{link_word};
 ghost use Rattle.icl_printer.specs.Layout.{layout};
-ghost use Rattle.icl_printer.specs.Canonical.{mux_tokens, child_tokens, words_tokens, parameter_tokens, parameter_word, interface_tokens, in_turn, member_tokens, link_tokens};
-ghost use Rattle.icl_lexer.specs.Views.{bytes_of, seen_bind, seen_enum_word, seen_expr, seen_instr, seen_row, seen_sig};
+ghost use Rattle.icl_printer.specs.Canonical.{mux_tokens, child_tokens, words_tokens, parameter_tokens};
+ghost use Rattle.icl_printer.specs.Canonical.{parameter_word, interface_tokens, in_turn, member_tokens};
+ghost use Rattle.icl_printer.specs.Canonical.{link_tokens};
+ghost use Rattle.icl_lexer.specs.Views.{bytes_of, seen_bind, seen_enum_word, seen_expr, seen_instr, seen_row};
+ghost use Rattle.icl_lexer.specs.Views.{seen_sig};
 
 use crate::bodies::{put_alias, put_named, put_port, put_register};
 use crate::parts::put_attribute;
@@ -23,8 +26,10 @@ fn put_mux<K: Sink>(
     rows: &List<MuxRow>,
     k: &mut K,
 ) -> Result<(), StoreFault>
-    ensures whole { OnOk result (Adds (K.taken k.old) (K.taken k.new) (layout (mux_tokens name.now.items (seen_list seen_sig select.now) (seen_list seen_row rows.now)))) }
-    ensures part { OnErr result (AddsPart (K.taken k.old) (K.taken k.new) (layout (mux_tokens name.now.items (seen_list seen_sig select.now) (seen_list seen_row rows.now)))) }
+    ensures whole { OnOk result (Adds (K.taken k.old) (K.taken k.new)
+        (layout (mux_tokens name.now.items (seen_list seen_sig select.now) (seen_list seen_row rows.now)))) }
+    ensures part { OnErr result (AddsPart (K.taken k.old) (K.taken k.new)
+        (layout (mux_tokens name.now.items (seen_list seen_sig select.now) (seen_list seen_row rows.now)))) }
     ensures cause { HasCause (K.faults k.old) (K.faults k.new) result StoreFault.Failed }
 {
     put_tokens(
@@ -49,8 +54,10 @@ fn put_child<K: Sink>(
     binds: &List<Bind>,
     k: &mut K,
 ) -> Result<(), StoreFault>
-    ensures whole { OnOk result (Adds (K.taken k.old) (K.taken k.new) (layout (child_tokens name.now.items of.now.items (seen_list seen_bind binds.now)))) }
-    ensures part { OnErr result (AddsPart (K.taken k.old) (K.taken k.new) (layout (child_tokens name.now.items of.now.items (seen_list seen_bind binds.now)))) }
+    ensures whole { OnOk result (Adds (K.taken k.old) (K.taken k.new)
+        (layout (child_tokens name.now.items of.now.items (seen_list seen_bind binds.now)))) }
+    ensures part { OnErr result (AddsPart (K.taken k.old) (K.taken k.new)
+        (layout (child_tokens name.now.items of.now.items (seen_list seen_bind binds.now)))) }
     ensures cause { HasCause (K.faults k.old) (K.faults k.new) result StoreFault.Failed }
 {
     put_named(b"Instance", name, k)?;
@@ -61,8 +68,10 @@ fn put_child<K: Sink>(
 
 /// Writes an enumeration.
 fn put_words<K: Sink>(name: &SmallText, words: &List<EnumWord>, k: &mut K) -> Result<(), StoreFault>
-    ensures whole { OnOk result (Adds (K.taken k.old) (K.taken k.new) (layout (words_tokens name.now.items (seen_list seen_enum_word words.now)))) }
-    ensures part { OnErr result (AddsPart (K.taken k.old) (K.taken k.new) (layout (words_tokens name.now.items (seen_list seen_enum_word words.now)))) }
+    ensures whole { OnOk result (Adds (K.taken k.old) (K.taken k.new)
+        (layout (words_tokens name.now.items (seen_list seen_enum_word words.now)))) }
+    ensures part { OnErr result (AddsPart (K.taken k.old) (K.taken k.new)
+        (layout (words_tokens name.now.items (seen_list seen_enum_word words.now)))) }
     ensures cause { HasCause (K.faults k.old) (K.faults k.new) result StoreFault.Failed }
 {
     put_tokens(
@@ -92,8 +101,10 @@ fn put_parameter<K: Sink>(
     value: &Expr,
     k: &mut K,
 ) -> Result<(), StoreFault>
-    ensures whole { OnOk result (Adds (K.taken k.old) (K.taken k.new) (layout (parameter_tokens name.now.items local (seen_expr value.now)))) }
-    ensures part { OnErr result (AddsPart (K.taken k.old) (K.taken k.new) (layout (parameter_tokens name.now.items local (seen_expr value.now)))) }
+    ensures whole { OnOk result (Adds (K.taken k.old) (K.taken k.new)
+        (layout (parameter_tokens name.now.items local (seen_expr value.now)))) }
+    ensures part { OnErr result (AddsPart (K.taken k.old) (K.taken k.new)
+        (layout (parameter_tokens name.now.items local (seen_expr value.now)))) }
     ensures cause { HasCause (K.faults k.old) (K.faults k.new) result StoreFault.Failed }
 {
     put_named(parameter_word_of(local), name, k)?;
@@ -105,8 +116,10 @@ fn put_parameter<K: Sink>(
 
 /// Writes the ports of an interface.
 fn put_ports<K: Sink>(ports: &List<SmallText>, k: &mut K) -> Result<(), StoreFault>
-    ensures whole { OnOk result (Adds (K.taken k.old) (K.taken k.new) (layout (in_turn member_tokens (seen_list bytes_of ports.now)))) }
-    ensures part { OnErr result (AddsPart (K.taken k.old) (K.taken k.new) (layout (in_turn member_tokens (seen_list bytes_of ports.now)))) }
+    ensures whole { OnOk result (Adds (K.taken k.old) (K.taken k.new)
+        (layout (in_turn member_tokens (seen_list bytes_of ports.now)))) }
+    ensures part { OnErr result (AddsPart (K.taken k.old) (K.taken k.new)
+        (layout (in_turn member_tokens (seen_list bytes_of ports.now)))) }
     ensures cause { HasCause (K.faults k.old) (K.faults k.new) result StoreFault.Failed }
 {
     for port in ports.as_slice() {
@@ -124,8 +137,10 @@ fn put_interface<K: Sink>(
     ports: &List<SmallText>,
     k: &mut K,
 ) -> Result<(), StoreFault>
-    ensures whole { OnOk result (Adds (K.taken k.old) (K.taken k.new) (layout (interface_tokens name.now.items (seen_list bytes_of ports.now)))) }
-    ensures part { OnErr result (AddsPart (K.taken k.old) (K.taken k.new) (layout (interface_tokens name.now.items (seen_list bytes_of ports.now)))) }
+    ensures whole { OnOk result (Adds (K.taken k.old) (K.taken k.new)
+        (layout (interface_tokens name.now.items (seen_list bytes_of ports.now)))) }
+    ensures part { OnErr result (AddsPart (K.taken k.old) (K.taken k.new)
+        (layout (interface_tokens name.now.items (seen_list bytes_of ports.now)))) }
     ensures cause { HasCause (K.faults k.old) (K.faults k.new) result StoreFault.Failed }
 {
     put_tokens(
@@ -159,8 +174,10 @@ fn put_link<K: Sink>(
     instrs: &List<LinkInstr>,
     k: &mut K,
 ) -> Result<(), StoreFault>
-    ensures whole { OnOk result (Adds (K.taken k.old) (K.taken k.new) (layout (link_tokens name.now.items kind entity.now.items (seen_list seen_instr instrs.now)))) }
-    ensures part { OnErr result (AddsPart (K.taken k.old) (K.taken k.new) (layout (link_tokens name.now.items kind entity.now.items (seen_list seen_instr instrs.now)))) }
+    ensures whole { OnOk result (Adds (K.taken k.old) (K.taken k.new)
+        (layout (link_tokens name.now.items kind entity.now.items (seen_list seen_instr instrs.now)))) }
+    ensures part { OnErr result (AddsPart (K.taken k.old) (K.taken k.new)
+        (layout (link_tokens name.now.items kind entity.now.items (seen_list seen_instr instrs.now)))) }
     ensures cause { HasCause (K.faults k.old) (K.faults k.new) result StoreFault.Failed }
 {
     put_named(b"AccessLink", name, k)?;

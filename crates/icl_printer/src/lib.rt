@@ -1,7 +1,7 @@
 //! The text of an ICL design (IEEE 1687-2014, the part that this compiler reads).
 //!
-//! `specs/Canonical` has the tokens that each part of a design is printed with, and `specs/Layout` how they are laid
-//! out.
+//! `specs/Canonical` has the tokens that each part of a design is printed with, and `specs/Layout` how they
+//! are laid out.
 #![tactic(auto)]
 
 mod bodies;

@@ -5,7 +5,8 @@ ghost use Rattle.ij_io.specs.Causes.{HasCause};
 ghost use Rattle.std.specs.Option.{option_map};
 ghost use Rattle.ij_bits.specs.Room.{seen_list};
 ghost use Rattle.icl_printer.specs.Layout.{layout};
-ghost use Rattle.icl_printer.specs.Canonical.{attribute_tokens, port_binding_tokens, parameter_binding_tokens};
+ghost use Rattle.icl_printer.specs.Canonical.{attribute_tokens, port_binding_tokens};
+ghost use Rattle.icl_printer.specs.Canonical.{parameter_binding_tokens};
 ghost use Rattle.icl_lexer.specs.Views.{seen_expr, seen_range, seen_sig};
 
 use crate::put::{Put, put_if_there_after, put_separated};
@@ -60,8 +61,10 @@ pub(crate) fn put_attribute<K: Sink>(
     value: &Option<Expr>,
     k: &mut K,
 ) -> Result<(), StoreFault>
-    ensures whole { OnOk result (Adds (K.taken k.old) (K.taken k.new) (layout (attribute_tokens name.now.items (option_map seen_expr value.now)))) }
-    ensures part { OnErr result (AddsPart (K.taken k.old) (K.taken k.new) (layout (attribute_tokens name.now.items (option_map seen_expr value.now)))) }
+    ensures whole { OnOk result (Adds (K.taken k.old) (K.taken k.new)
+        (layout (attribute_tokens name.now.items (option_map seen_expr value.now)))) }
+    ensures part { OnErr result (AddsPart (K.taken k.old) (K.taken k.new)
+        (layout (attribute_tokens name.now.items (option_map seen_expr value.now)))) }
     ensures cause { HasCause (K.faults k.old) (K.faults k.new) result StoreFault.Failed }
 {
     put_tokens(&[Piece::Word(b"Attribute"), Piece::Name(name)], k)?;
@@ -77,8 +80,10 @@ fn put_port_binding<K: Sink>(
     sigs: &List<Sig>,
     k: &mut K,
 ) -> Result<(), StoreFault>
-    ensures whole { OnOk result (Adds (K.taken k.old) (K.taken k.new) (layout (port_binding_tokens name.now.items (option_map seen_range range.now) (seen_list seen_sig sigs.now)))) }
-    ensures part { OnErr result (AddsPart (K.taken k.old) (K.taken k.new) (layout (port_binding_tokens name.now.items (option_map seen_range range.now) (seen_list seen_sig sigs.now)))) }
+    ensures whole { OnOk result (Adds (K.taken k.old) (K.taken k.new) (layout (port_binding_tokens
+        name.now.items (option_map seen_range range.now) (seen_list seen_sig sigs.now)))) }
+    ensures part { OnErr result (AddsPart (K.taken k.old) (K.taken k.new) (layout (port_binding_tokens
+        name.now.items (option_map seen_range range.now) (seen_list seen_sig sigs.now)))) }
     ensures cause { HasCause (K.faults k.old) (K.faults k.new) result StoreFault.Failed }
 {
     put_tokens(&[Piece::Word(b"InputPort"), Piece::Name(name)], k)?;
@@ -95,8 +100,10 @@ fn put_parameter_binding<K: Sink>(
     value: &Expr,
     k: &mut K,
 ) -> Result<(), StoreFault>
-    ensures whole { OnOk result (Adds (K.taken k.old) (K.taken k.new) (layout (parameter_binding_tokens name.now.items (seen_expr value.now)))) }
-    ensures part { OnErr result (AddsPart (K.taken k.old) (K.taken k.new) (layout (parameter_binding_tokens name.now.items (seen_expr value.now)))) }
+    ensures whole { OnOk result (Adds (K.taken k.old) (K.taken k.new)
+        (layout (parameter_binding_tokens name.now.items (seen_expr value.now)))) }
+    ensures part { OnErr result (AddsPart (K.taken k.old) (K.taken k.new)
+        (layout (parameter_binding_tokens name.now.items (seen_expr value.now)))) }
     ensures cause { HasCause (K.faults k.old) (K.faults k.new) result StoreFault.Failed }
 {
     put_tokens(

@@ -11,8 +11,10 @@ use ij_io::{Sink, StoreFault};
 
 /// Writes a property's word, what stands after it, and `;`.
 fn put_property<T: Put, K: Sink>(name: &[u8], part: &T, k: &mut K) -> Result<(), StoreFault>
-    ensures whole { OnOk result (Adds (K.taken k.old) (K.taken k.new) (layout (word name.now ∷ (T.tokens (T.view part.now) ++ (mark 59 ∷ []))))) }
-    ensures part { OnErr result (AddsPart (K.taken k.old) (K.taken k.new) (layout (word name.now ∷ (T.tokens (T.view part.now) ++ (mark 59 ∷ []))))) }
+    ensures whole { OnOk result (Adds (K.taken k.old) (K.taken k.new)
+        (layout (word name.now ∷ (T.tokens (T.view part.now) ++ (mark 59 ∷ []))))) }
+    ensures part { OnErr result (AddsPart (K.taken k.old) (K.taken k.new)
+        (layout (word name.now ∷ (T.tokens (T.view part.now) ++ (mark 59 ∷ []))))) }
     ensures cause { HasCause (K.faults k.old) (K.faults k.new) result StoreFault.Failed }
 {
     put_word(name, k)?;

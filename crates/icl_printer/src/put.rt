@@ -23,14 +23,17 @@ pub(crate) trait Put {
     /// Writes the part's tokens, each with the blank after it.
     fn put<K: Sink>(&self, k: &mut K) -> Result<(), StoreFault>
         ensures whole { OnOk result (Adds (K.taken k.old) (K.taken k.new) (layout (tokens (view self.now)))) }
-        ensures part { OnErr result (AddsPart (K.taken k.old) (K.taken k.new) (layout (tokens (view self.now)))) }
+        ensures part { OnErr result
+            (AddsPart (K.taken k.old) (K.taken k.new) (layout (tokens (view self.now)))) }
         ensures cause { HasCause (K.faults k.old) (K.faults k.new) result StoreFault.Failed };
 }
 
 /// Writes parts one after the other.
 pub(crate) fn put_all<T: Put, K: Sink>(parts: &List<T>, k: &mut K) -> Result<(), StoreFault>
-    ensures whole { OnOk result (Adds (K.taken k.old) (K.taken k.new) (layout (in_turn T.tokens (map T.view parts.now.items)))) }
-    ensures part { OnErr result (AddsPart (K.taken k.old) (K.taken k.new) (layout (in_turn T.tokens (map T.view parts.now.items)))) }
+    ensures whole { OnOk result
+        (Adds (K.taken k.old) (K.taken k.new) (layout (in_turn T.tokens (map T.view parts.now.items)))) }
+    ensures part { OnErr result
+        (AddsPart (K.taken k.old) (K.taken k.new) (layout (in_turn T.tokens (map T.view parts.now.items)))) }
     ensures cause { HasCause (K.faults k.old) (K.faults k.new) result StoreFault.Failed }
 {
     for part in parts.as_slice() {
@@ -41,8 +44,10 @@ pub(crate) fn put_all<T: Put, K: Sink>(parts: &List<T>, k: &mut K) -> Result<(),
 
 /// Writes parts, each after a mark.
 fn put_each_after<T: Put, K: Sink>(mark: u8, parts: &[T], k: &mut K) -> Result<(), StoreFault>
-    ensures whole { OnOk result (Adds (K.taken k.old) (K.taken k.new) (layout (in_turn (after mark T.tokens) (map T.view parts.now)))) }
-    ensures part { OnErr result (AddsPart (K.taken k.old) (K.taken k.new) (layout (in_turn (after mark T.tokens) (map T.view parts.now)))) }
+    ensures whole { OnOk result (Adds (K.taken k.old) (K.taken k.new)
+        (layout (in_turn (after mark T.tokens) (map T.view parts.now)))) }
+    ensures part { OnErr result (AddsPart (K.taken k.old) (K.taken k.new)
+        (layout (in_turn (after mark T.tokens) (map T.view parts.now)))) }
     ensures cause { HasCause (K.faults k.old) (K.faults k.new) result StoreFault.Failed }
 {
     for part in parts {
@@ -53,8 +58,10 @@ fn put_each_after<T: Put, K: Sink>(mark: u8, parts: &[T], k: &mut K) -> Result<(
 
 /// Writes a mark and a part after it.
 pub(crate) fn put_after<T: Put, K: Sink>(mark: u8, part: &T, k: &mut K) -> Result<(), StoreFault>
-    ensures whole { OnOk result (Adds (K.taken k.old) (K.taken k.new) (layout (after mark T.tokens (T.view part.now)))) }
-    ensures part { OnErr result (AddsPart (K.taken k.old) (K.taken k.new) (layout (after mark T.tokens (T.view part.now)))) }
+    ensures whole { OnOk result
+        (Adds (K.taken k.old) (K.taken k.new) (layout (after mark T.tokens (T.view part.now)))) }
+    ensures part { OnErr result
+        (AddsPart (K.taken k.old) (K.taken k.new) (layout (after mark T.tokens (T.view part.now)))) }
     ensures cause { HasCause (K.faults k.old) (K.faults k.new) result StoreFault.Failed }
 {
     put_tokens(&[Piece::Mark(mark)], k)?;
@@ -68,8 +75,10 @@ pub(crate) fn put_separated<T: Put, K: Sink>(
     parts: &[T],
     k: &mut K,
 ) -> Result<(), StoreFault>
-    ensures whole { OnOk result (Adds (K.taken k.old) (K.taken k.new) (layout (separated mark T.tokens (map T.view parts.now)))) }
-    ensures part { OnErr result (AddsPart (K.taken k.old) (K.taken k.new) (layout (separated mark T.tokens (map T.view parts.now)))) }
+    ensures whole { OnOk result
+        (Adds (K.taken k.old) (K.taken k.new) (layout (separated mark T.tokens (map T.view parts.now)))) }
+    ensures part { OnErr result
+        (AddsPart (K.taken k.old) (K.taken k.new) (layout (separated mark T.tokens (map T.view parts.now)))) }
     ensures cause { HasCause (K.faults k.old) (K.faults k.new) result StoreFault.Failed }
 {
     if let [first, rest @ ..] = parts {
@@ -81,8 +90,10 @@ pub(crate) fn put_separated<T: Put, K: Sink>(
 
 /// Writes parts in braces, or `;` where there is none.
 pub(crate) fn put_braced<T: Put, K: Sink>(parts: &List<T>, k: &mut K) -> Result<(), StoreFault>
-    ensures whole { OnOk result (Adds (K.taken k.old) (K.taken k.new) (layout (braced T.tokens (map T.view parts.now.items)))) }
-    ensures part { OnErr result (AddsPart (K.taken k.old) (K.taken k.new) (layout (braced T.tokens (map T.view parts.now.items)))) }
+    ensures whole { OnOk result
+        (Adds (K.taken k.old) (K.taken k.new) (layout (braced T.tokens (map T.view parts.now.items)))) }
+    ensures part { OnErr result
+        (AddsPart (K.taken k.old) (K.taken k.new) (layout (braced T.tokens (map T.view parts.now.items)))) }
     ensures cause { HasCause (K.faults k.old) (K.faults k.new) result StoreFault.Failed }
 {
     if parts.is_empty() {
@@ -101,8 +112,10 @@ pub(crate) fn put_if_there_after<T: Put, K: Sink>(
     part: &Option<T>,
     k: &mut K,
 ) -> Result<(), StoreFault>
-    ensures whole { OnOk result (Adds (K.taken k.old) (K.taken k.new) (layout (if_there (after mark T.tokens) (option_map T.view part.now)))) }
-    ensures part { OnErr result (AddsPart (K.taken k.old) (K.taken k.new) (layout (if_there (after mark T.tokens) (option_map T.view part.now)))) }
+    ensures whole { OnOk result (Adds (K.taken k.old) (K.taken k.new)
+        (layout (if_there (after mark T.tokens) (option_map T.view part.now)))) }
+    ensures part { OnErr result (AddsPart (K.taken k.old) (K.taken k.new)
+        (layout (if_there (after mark T.tokens) (option_map T.view part.now)))) }
     ensures cause { HasCause (K.faults k.old) (K.faults k.new) result StoreFault.Failed }
 {
     match part {

@@ -20,12 +20,16 @@ module _ (frames : List Frame) (here : Here) (at : Place) (width : ℕ) where
   row_wide r c h =
       let a = both (each (value_in here.frame.params at width) r.values) _ c h in
       let b = both (scan_signal frames here r.source) _ c a.then' in
-      subst (λ (x : Choice). AreWide width x.values) (ok_is (record { values = a.first; source = b.first }) c b.then')
-      (each_all (value_in here.frame.params at width) (λ (v : OpenBits). length v ≡ width) (λ es bits g. value_wide here.frame.params at width es bits g) r.values a.first a.is)
+      subst (λ (x : Choice). AreWide width x.values)
+      (ok_is (record { values = a.first; source = b.first }) c b.then')
+      (each_all (value_in here.frame.params at width) (λ (v : OpenBits). length v ≡ width)
+      (λ es bits g. value_wide here.frame.params at width es bits g) r.values a.first a.is)
 
-  pub rows_alike : (rows : List SeenRow) (choices : List Choice) → each (row_in frames here at width) rows ≡ Ok choices → AreRowsAlike [] choices
+  pub rows_alike : (rows : List SeenRow) (choices : List Choice)
+      → each (row_in frames here at width) rows ≡ Ok choices → AreRowsAlike [] choices
   rows_alike rows choices h = record {
     width = width;
     values_wide = tt;
-    rows_wide = each_all (row_in frames here at width) (λ (c : Choice). AreWide width c.values) (λ r c g. row_wide r c g) rows choices h;
+    rows_wide = each_all (row_in frames here at width) (λ (c : Choice). AreWide width c.values)
+        (λ r c g. row_wide r c g) rows choices h;
   }

@@ -1,4 +1,5 @@
--- The rows of a multiplexer (IEEE 1687-2014, ICL: ScanMux): an x matches both values of a bit, and no value is in two rows.
+-- The rows of a multiplexer (IEEE 1687-2014, ICL: ScanMux): an x matches both values of a bit, and no value
+-- is in two rows.
 use Rattle.std.specs.Prelude.{ℕ, Bool, true, false, ◌&&◌, ◌||◌, List, [], ◌∷◌, length, Option, Some, None, Ok}
 use Rattle.std.specs.List.{list_any}
 use Rattle.ij_bits.specs.BitLists.{same_bit}

@@ -1,5 +1,7 @@
--- How overlaps of rows are found: each row is compared with the values of those before it, of which the ones without x are in a table.
-use Rattle.std.specs.Prelude.{◌≡◌, ℕ, Bool, true, false, not, ◌&&◌, ◌||◌, List, [], ◌∷◌, ◌++◌, map, filter, length, Option, Some, None, is_some}
+-- How overlaps of rows are found: each row is compared with the values of those before it, of which the ones
+-- without x are in a table.
+use Rattle.std.specs.Prelude.{◌≡◌, ℕ, Bool, true, false, not, ◌&&◌, ◌||◌, List, [], ◌∷◌, ◌++◌, map, filter}
+use Rattle.std.specs.Prelude.{length, Option, Some, None, is_some}
 use Rattle.std.specs.List.{AllByRecursion, list_all, list_any}
 use Rattle.std.specs.Str.{bytes_eq}
 use Rattle.ij_text.specs.Numbers.{tern_bits}

@@ -8,7 +8,8 @@ use Rattle.ij_text.specs.Numbers.{tern_bits}
 use Rattle.icl_declarations.specs.Values.{OpenBits}
 use Rattle.icl_references.specs.declared.hier.Ref.{Ref}
 use Rattle.icl_references.specs.declared.hier.Body.{Body}
-use Rattle.icl_references.specs.declared.hier.Body.TheVariants.{ScanIn, ScanOut, DataIn, DataOut, Control, Register, Mux, Alias, Child, Interface, Link}
+use Rattle.icl_references.specs.declared.hier.Body.TheVariants.{ScanIn, ScanOut, DataIn, DataOut, Control}
+use Rattle.icl_references.specs.declared.hier.Body.TheVariants.{Register, Mux, Alias, Child, Interface, Link}
 use Rattle.icl_references.specs.declared.hier.Part.{Part}
 use Rattle.icl_references.specs.declared.hier.Cell.{Cell}
 use Rattle.icl_references.specs.declared.hier.Hier.{Hier}
@@ -88,7 +89,8 @@ seen_body (ScanOut source) = ScanOutput source
 seen_body (DataIn bound) = DataInput (option_map seen_refs bound)
 seen_body (DataOut source) = DataOutput (option_map seen_refs source)
 seen_body Control = ControlPort
-seen_body (Register scan capture reset) = AScanRegister scan (option_map seen_refs capture) (option_map tern_bits reset)
+seen_body (Register scan capture reset) =
+    AScanRegister scan (option_map seen_refs capture) (option_map tern_bits reset)
 seen_body (Mux select rows) = AScanMux select.items (map seen_row rows.items)
 seen_body (Alias refs) = AnAliasOf refs.items
 seen_body (Child cell) = AnInstance cell
@@ -99,10 +101,22 @@ abbrev pub seen_word : Listed ℕ × Tern → Word
 seen_word w = record { name = w.0.items; value = tern_bits w.1 }
 
 abbrev pub seen_part : Part → PartOf
-seen_part p = record { name = p.name.items; at = p.at; left = p.left; right = p.right; role = seen_body p.body; words = map seen_word p.words.items }
+seen_part p = record {
+  name = p.name.items;
+  at = p.at;
+  left = p.left;
+  right = p.right;
+  role = seen_body p.body;
+  words = map seen_word p.words.items;
+}
 
 abbrev pub seen_cell : Cell → CellOf
-seen_cell c = record { name = c.name.items; parent = c.parent; module_name = c.«module».items; parts = map seen_part c.parts.items }
+seen_cell c = record {
+  name = c.name.items;
+  parent = c.parent;
+  module_name = c.«module».items;
+  parts = map seen_part c.parts.items;
+}
 
 abbrev pub seen_hier : Hier → List CellOf
 seen_hier h = map seen_cell h.cells.items

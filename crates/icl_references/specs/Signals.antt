@@ -1,17 +1,21 @@
--- What a signal names, bit by bit (IEEE 1687-2014, ICL: scan sources, data signals, aliases and control signals). The order of
--- faults is: a name that isn't there, a wrong kind, a bad range; a width that differs comes after the whole list.
-use Rattle.std.specs.Prelude.{ℕ, ◌==◌, Bool, true, false, not, ◌&&◌, ◌||◌, cond, List, [], ◌∷◌, map, length, Option, Some, None, is_some, unwrap_or, Ok, Err}
+-- What a signal names, bit by bit (IEEE 1687-2014, ICL: scan sources, data signals, aliases and control
+-- signals). The order of faults is: a name that isn't there, a wrong kind, a bad range; a width that differs
+-- comes after the whole list.
+use Rattle.std.specs.Prelude.{ℕ, ◌==◌, Bool, true, false, not, ◌&&◌, ◌||◌, cond, List, [], ◌∷◌, map, length}
+use Rattle.std.specs.Prelude.{Option, Some, None, is_some, unwrap_or, Ok, Err}
 use Rattle.std.specs.List.{list_all}
 use Rattle.ij_bits.specs.BitLists.{flip_if}
 use Rattle.ij_text.specs.declared.Place.{Place}
 use Rattle.icl_lexer.specs.Values.{SeenRange, SeenSigWhat, ANumber, APath, SeenSig, SeenWhat}
-use Rattle.icl_declarations.specs.Faults.{Answer, ◌>>=◌, refuse_if, each, over, BadNumber, WidthDiffers, WrongKind}
+use Rattle.icl_declarations.specs.Faults.{Answer, ◌>>=◌, refuse_if, each, over, BadNumber, WidthDiffers}
+use Rattle.icl_declarations.specs.Faults.{WrongKind}
 use Rattle.icl_declarations.specs.Values.{OpenBits, Worth, AnInteger, SomeBits, AText, Params, integer_bits}
 use Rattle.icl_declarations.specs.Expressions.{evaluate, place_in}
 use Rattle.icl_declarations.specs.Widths.{free_in, sized_in, joined}
 use Rattle.icl_references.specs.declared.hier.Ref.{Ref}
 use Rattle.icl_references.specs.declared.hier.Ref.TheVariants.{Fixed, Bit}
-use Rattle.icl_declarations.specs.Parts.{is_scan_in, is_scan_out, is_data_in, is_data_out, port_that, is_register, is_mux, is_data_port}
+use Rattle.icl_declarations.specs.Parts.{is_scan_in, is_scan_out, is_data_in, is_data_out, port_that}
+use Rattle.icl_declarations.specs.Parts.{is_register, is_mux, is_data_port}
 use Rattle.icl_declarations.specs.declared.ranges.Bounds.{Bounds}
 use Rattle.icl_declarations.specs.declared.ranges.Stretch.{Stretch}
 use Rattle.icl_declarations.specs.Ranges.{width, positions, indices, named_in}
@@ -36,7 +40,8 @@ is_of_child path = length path == 2
 
 -- a scan source: an own ScanInPort, a multiplexer, a register's scan-out, or the ScanOutPort of an instance
 abbrev pub is_scan_source : List (List ℕ) → SeenWhat → Bool
-is_scan_source path what = (is_own path && (is_register what || is_mux what || port_that is_scan_in what)) || (is_of_child path && port_that is_scan_out what)
+is_scan_source path what = (is_own path && (is_register what || is_mux what || port_that is_scan_in what)) ||
+    (is_of_child path && port_that is_scan_out what)
 
 -- a register is named as a whole, or by its right index
 abbrev pub is_scan_out_of : Bounds → Bounds → Bool
@@ -44,7 +49,8 @@ is_scan_out_of b i = i.right == b.right && (i.left == b.right || i.left == b.lef
 
 -- a data signal that isn't a number: a register, an own DataInPort, or the DataOutPort of an instance
 abbrev pub is_data_source : List (List ℕ) → SeenWhat → Bool
-is_data_source path what = (is_own path && (is_register what || port_that is_data_in what)) || (is_of_child path && port_that is_data_out what)
+is_data_source path what = (is_own path && (is_register what || port_that is_data_in what)) ||
+    (is_of_child path && port_that is_data_out what)
 
 -- ---- numbers as signals
 
@@ -98,7 +104,8 @@ module _ (frames : List Frame) (here : Here) where
 
   abbrev pub scan_named : Place → Target → Option SeenRange → Answer (Unit {0})
   scan_named at t range =
-      cond (is_register t.member.item.what) (register_named at t.member.bounds range) (named_in params t.member.bounds range >>= λ s. Ok tt)
+      cond (is_register t.member.item.what) (register_named at t.member.bounds range)
+      (named_in params t.member.bounds range >>= λ s. Ok tt)
 
   abbrev pub scan_path : Place → Bool → List (List ℕ) → Option SeenRange → Answer Ref
   scan_path at inverted path range = do
@@ -124,7 +131,8 @@ module _ (frames : List Frame) (here : Here) where
     Ok (bits_of t inverted s)
 
   abbrev pub data_meant : Place → Option ℕ → Place → Bool → SeenSigWhat → Answer (List Ref)
-  data_meant holder wanted at inverted (ANumber e) = evaluate params at e >>= λ worth. number_bits holder (place_in at e) wanted worth >>= λ bits. Ok (constants inverted bits)
+  data_meant holder wanted at inverted (ANumber e) = evaluate params at e
+      >>= λ worth. number_bits holder (place_in at e) wanted worth >>= λ bits. Ok (constants inverted bits)
   data_meant holder wanted at inverted (APath path range) = data_path at inverted path range
 
   unfoldable pub data_signal : Place → Option ℕ → SeenSig → Answer (List Ref)
@@ -132,7 +140,8 @@ module _ (frames : List Frame) (here : Here) where
 
   -- data signals where a width is wanted
   unfoldable pub data_signals : Place → ℕ → List SeenSig → Answer (List Ref)
-  data_signals holder width ss = side_by_side (data_signal holder (lone_width width ss)) ss >>= as_wide holder width
+  data_signals holder width ss =
+      side_by_side (data_signal holder (lone_width width ss)) ss >>= as_wide holder width
 
   -- data signals of any width: those that select the row of a multiplexer
   unfoldable pub select_signals : Place → List SeenSig → Answer (List Ref)
@@ -143,7 +152,8 @@ module _ (frames : List Frame) (here : Here) where
   abbrev pub alias_path : Place → Bool → List (List ℕ) → Option SeenRange → Answer (List Ref)
   alias_path at inverted path range = do
     t ← path_from frames here at path
-    kind ← refuse_if (inverted || not (is_register t.member.item.what || is_data_port t.member.item.what)) (WrongKind at)
+    kind ← refuse_if
+        (inverted || not (is_register t.member.item.what || is_data_port t.member.item.what)) (WrongKind at)
     s ← named_in params t.member.bounds range
     Ok (bits_of t false s)
 
@@ -152,7 +162,8 @@ module _ (frames : List Frame) (here : Here) where
   alias_meant at inverted (APath path range) = alias_path at inverted path range
 
   unfoldable pub alias_signals : Place → ℕ → List SeenSig → Answer (List Ref)
-  alias_signals holder width ss = side_by_side (λ s. alias_meant s.at s.inverted s.what) ss >>= as_wide holder width
+  alias_signals holder width ss =
+      side_by_side (λ s. alias_meant s.at s.inverted s.what) ss >>= as_wide holder width
 
   -- ---- control signals: only their names are looked up
 

@@ -13,7 +13,8 @@ seen_target tables t = record { here = here_in tables t.cell; member = seen_memb
 
 -- an instance by its name
 abbrev pub child_named : List Frame → Here → Place → List ℕ → Answer Here
-child_named frames here at name = named here.frame at name >>= λ m. inside frames here at m.item.name m.item.what
+child_named frames here at name = named here.frame at name
+    >>= λ m. inside frames here at m.item.name m.item.what
 
 -- any part by its name
 abbrev pub target_named : Here → Place → List ℕ → Answer Target

@@ -1,5 +1,5 @@
-//! What references, values and rows of an instance name (IEEE 1687-2014, ICL): paths of names, signals bit by bit, multiplexers. And the
-//! hierarchy, which is made of them.
+//! What references, values and rows of an instance name (IEEE 1687-2014, ICL): paths of names, signals bit by
+//! bit, multiplexers. And the hierarchy, which is made of them.
 #![tactic(auto)]
 
 mod bits;

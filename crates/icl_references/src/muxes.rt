@@ -29,7 +29,8 @@ fn row_values(
     values: &[Few<Expr>],
 ) -> Result<List<Tern>, ElabFault>
     requires { IsHere tables.now here }
-    ensures { Gives (λ all. map tern_bits all.items) result (each (value_in (here_in tables.now here).frame.params at width) (map (seen_few seen_expr) values.now)) }
+    ensures { Gives (λ all. map tern_bits all.items) result (each
+        (value_in (here_in tables.now here).frame.params at width) (map (seen_few seen_expr) values.now)) }
 {
     let mut all = List::new(alloc);
     for value in values {
@@ -50,7 +51,8 @@ fn row_in(
     row: &MuxRow,
 ) -> Result<Row, ElabFault>
     requires { IsHere tables.now here }
-    ensures { Gives seen_choice result (row_in (frames_of tables.now) (here_in tables.now here) at width (seen_row row.now)) }
+    ensures { Gives seen_choice result
+        (row_in (frames_of tables.now) (here_in tables.now here) at width (seen_row row.now)) }
 {
     let values = row_values(alloc, tables, here, at, width, row.values.as_slice())?;
     let source = scan_signal(alloc, tables, here, &row.source)?;
@@ -67,7 +69,8 @@ fn rows_in(
     rows: &[MuxRow],
 ) -> Result<List<Row>, ElabFault>
     requires { IsHere tables.now here }
-    ensures { Gives (λ all. map seen_choice all.items) result (each (row_in (frames_of tables.now) (here_in tables.now here) at width) (map seen_row rows.now)) }
+    ensures { Gives (λ all. map seen_choice all.items) result
+        (each (row_in (frames_of tables.now) (here_in tables.now here) at width) (map seen_row rows.now)) }
 {
     let mut all = List::new(alloc);
     for row in rows {
@@ -87,8 +90,9 @@ fn select_width(select: &List<Ref>) -> Result<u32, ElabFault>
     }
 }
 
-/// A multiplexer (IEEE 1687-2014, ICL: `ScanMux`) at the place of its item: the bits that select a row, and the rows, no two of which match one
-/// value. An x of a row matches 0 and 1. `RowsOverlap` where two rows match one value.
+/// A multiplexer (IEEE 1687-2014, ICL: `ScanMux`) at the place of its item: the bits that select a row, and
+/// the rows, no two of which match one value. An x of a row matches 0 and 1. `RowsOverlap` where two rows
+/// match one value.
 #[tactic(auto, unfolding(crate::specs::Muxes::mux_role))]
 pub fn mux_role(
     alloc: Global,
@@ -99,7 +103,8 @@ pub fn mux_role(
     rows: &[MuxRow],
 ) -> Result<Body, ElabFault>
     requires { IsHere tables.now here }
-    ensures { Gives seen_body result (mux_role (frames_of tables.now) (here_in tables.now here) at (map seen_sig select.now) (map seen_row rows.now)) }
+    ensures { Gives seen_body result (mux_role (frames_of tables.now) (here_in tables.now here) at
+        (map seen_sig select.now) (map seen_row rows.now)) }
 {
     let select = select_signals(alloc, tables, here, at, select)?;
     let width = select_width(&select)?;

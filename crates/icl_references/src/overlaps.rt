@@ -3,7 +3,8 @@ ghost use Rattle.std.specs.Prelude.{◌≡◌, ◌++◌, ◌∷◌, [], length, 
 ghost use Rattle.std.specs.List.{list_any};
 ghost use Rattle.ij_text.specs.Numbers.{tern_bits};
 ghost use Rattle.icl_references.specs.Muxes.{meet, meet_at, some_meet};
-ghost use Rattle.icl_references.specs.Overlaps.{AreAlike, AreRowsAlike, AreWide, IsSeen, digit, key_of, values_meet, values_of};
+ghost use Rattle.icl_references.specs.Overlaps.{AreAlike, AreRowsAlike, AreWide, IsSeen, digit, key_of};
+ghost use Rattle.icl_references.specs.Overlaps.{values_meet, values_of};
 ghost use Rattle.icl_references.specs.Roles.{seen_row};
 
 use crate::hier::Ref;
@@ -16,8 +17,8 @@ use std::alloc::Global;
 /// A row: the values that select it, and its source.
 pub(crate) type Row = (List<Tern>, Ref);
 
-/// The values of the rows up to here. Of two without x it takes one look-up to see whether they are equal; one with an x is
-/// compared with all others.
+/// The values of the rows up to here. Of two without x it takes one look-up to see whether they are equal;
+/// one with an x is compared with all others.
 #[derive(Drop)]
 pub(crate) struct Seen<'a> {
     pub all: Vec<&'a Tern>,
@@ -154,8 +155,8 @@ fn row_meets(alloc: Global, seen: &Seen, row: &[Tern]) -> Result<bool, OutOfMemo
     Ok(false)
 }
 
-/// Whether two of these rows overlap, whose values have one width. It takes time in the number of values, and of those with an x
-/// times all.
+/// Whether two of these rows overlap, whose values have one width. It takes time in the number of values, and
+/// of those with an x times all.
 pub(crate) fn some_meet(alloc: Global, rows: &[Row]) -> Result<bool, OutOfMemory>
     requires { AreRowsAlike [] (map seen_row rows.now) }
     ensures { IfOk result (λ b. b ≡ some_meet (map seen_row rows.now)) }

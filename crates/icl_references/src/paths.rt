@@ -31,7 +31,8 @@ fn child_named(
 ) -> Result<u32, ElabFault>
     requires { IsHere tables.now here }
     ensures there { IfOk result (λ child. IsHere tables.now child) }
-    ensures gives { Gives (here_in tables.now) result (child_named (frames_of tables.now) (here_in tables.now here) at name.now) }
+    ensures gives { Gives (here_in tables.now) result
+        (child_named (frames_of tables.now) (here_in tables.now here) at name.now) }
 {
     let member = tables.named(alloc, here, at, name)?;
     tables.inside(here, at, member.item)
@@ -52,8 +53,8 @@ fn target_named<'a>(
     Ok(Target { cell: here, member })
 }
 
-/// What a path of names leads to from a cell (IEEE 1687-2014, ICL: names with dots between them): each name but the last one is an
-/// instance. `NoName` and `WrongKind` at the first name that leads nowhere.
+/// What a path of names leads to from a cell (IEEE 1687-2014, ICL: names with dots between them): each name
+/// but the last one is an instance. `NoName` and `WrongKind` at the first name that leads nowhere.
 pub(crate) fn path_from<'a>(
     alloc: Global,
     tables: &Tables<'a>,
@@ -62,7 +63,8 @@ pub(crate) fn path_from<'a>(
     path: &[SmallText],
 ) -> Result<Target<'a>, ElabFault>
     requires { IsHere tables.now here }
-    ensures { Gives (seen_target tables.now) result (path_from (frames_of tables.now) (here_in tables.now here) at (map bytes_of path.now)) }
+    ensures { Gives (seen_target tables.now) result
+        (path_from (frames_of tables.now) (here_in tables.now here) at (map bytes_of path.now)) }
 {
     let (last, front) = match path.split_last() {
         Some(parts) => parts,

@@ -6,7 +6,11 @@ ghost use Rattle.icl_lexer.specs.Views.{bytes_of, seen_expr, seen_range, seen_si
 ghost use Rattle.icl_lexer.specs.Values.{ANumber};
 ghost use Rattle.icl_declarations.specs.Faults.{Gives, each};
 ghost use Rattle.icl_references.specs.Roles.{seen_refs};
-ghost use Rattle.icl_references.specs.Signals.{alias_meant, alias_path, alias_signals, as_wide, control_meant, control_signals, data_meant, data_path, data_signal, data_signals, is_scan_out_of, lone_width, register_named, scan_named, scan_path, scan_signal, select_signals};
+ghost use Rattle.icl_references.specs.Signals.{alias_meant, alias_path, alias_signals, as_wide};
+ghost use Rattle.icl_references.specs.Signals.{control_meant, control_signals, data_meant, data_path};
+ghost use Rattle.icl_references.specs.Signals.{data_signal, data_signals, is_scan_out_of, lone_width};
+ghost use Rattle.icl_references.specs.Signals.{register_named, scan_named, scan_path, scan_signal};
+ghost use Rattle.icl_references.specs.Signals.{select_signals};
 ghost use Rattle.icl_references.specs.Tables.{IsHere, frames_of, here_in};
 ghost use Rattle.icl_references.specs.Targets.{seen_target};
 
@@ -42,7 +46,8 @@ fn register_named(
     range: &Option<Range>,
 ) -> Result<(), ElabFault>
     requires { IsHere tables.now here }
-    ensures { Gives same result (register_named (frames_of tables.now) (here_in tables.now here) at b (option_map seen_range range.now)) }
+    ensures { Gives same result (register_named (frames_of tables.now)
+        (here_in tables.now here) at b (option_map seen_range range.now)) }
 {
     match range {
         Some(r) => {
@@ -67,7 +72,8 @@ fn scan_named(
     range: &Option<Range>,
 ) -> Result<(), ElabFault>
     requires { IsHere tables.now here }
-    ensures { Gives same result (scan_named (frames_of tables.now) (here_in tables.now here) at (seen_target tables.now t.now) (option_map seen_range range.now)) }
+    ensures { Gives same result (scan_named (frames_of tables.now) (here_in tables.now here) at
+        (seen_target tables.now t.now) (option_map seen_range range.now)) }
 {
     if is_register(&t.member.item.what) {
         register_named(alloc, tables, here, at, t.member.bounds, range)
@@ -88,7 +94,8 @@ fn scan_path(
     range: &Option<Range>,
 ) -> Result<Ref, ElabFault>
     requires { IsHere tables.now here }
-    ensures { Gives same result (scan_path (frames_of tables.now) (here_in tables.now here) at inverted (map bytes_of path.now) (option_map seen_range range.now)) }
+    ensures { Gives same result (scan_path (frames_of tables.now) (here_in tables.now here) at inverted
+        (map bytes_of path.now) (option_map seen_range range.now)) }
 {
     let t = path_from(alloc, tables, here, at, path)?;
     if inverted || !is_scan_source(path, &t.member.item.what) {
@@ -103,12 +110,14 @@ fn scan_path(
     })
 }
 
-/// The bit that a scan signal names (IEEE 1687-2014, ICL: `ScanInSource`, the `Source` of a `ScanOutPort`, a row of a `ScanMux`): an own
-/// `ScanInPort`, a multiplexer, a register's scan-out, or the `ScanOutPort` of an instance.
+/// The bit that a scan signal names (IEEE 1687-2014, ICL: `ScanInSource`, the `Source` of a `ScanOutPort`, a
+/// row of a `ScanMux`): an own `ScanInPort`, a multiplexer, a register's scan-out, or the `ScanOutPort` of an
+/// instance.
 #[tactic(auto, unfolding(crate::specs::Signals::scan_signal))]
 pub fn scan_signal(alloc: Global, tables: &Tables, here: u32, sig: &Sig) -> Result<Ref, ElabFault>
     requires { IsHere tables.now here }
-    ensures { Gives same result (scan_signal (frames_of tables.now) (here_in tables.now here) (seen_sig sig.now)) }
+    ensures { Gives same result
+        (scan_signal (frames_of tables.now) (here_in tables.now here) (seen_sig sig.now)) }
 {
     match &sig.what {
         SigWhat::Value(_) => Err(ElabFault::WrongKind { at: sig.at }),
@@ -137,7 +146,8 @@ fn data_path(
     range: &Option<Range>,
 ) -> Result<List<Ref>, ElabFault>
     requires { IsHere tables.now here }
-    ensures { Gives seen_refs result (data_path (frames_of tables.now) (here_in tables.now here) at inverted (map bytes_of path.now) (option_map seen_range range.now)) }
+    ensures { Gives seen_refs result (data_path (frames_of tables.now) (here_in tables.now here) at inverted
+        (map bytes_of path.now) (option_map seen_range range.now)) }
 {
     let t = path_from(alloc, tables, here, at, path)?;
     if !is_data_source(path, &t.member.item.what) {
@@ -159,7 +169,8 @@ fn data_number(
     e: &Expr,
 ) -> Result<List<Ref>, ElabFault>
     requires { IsHere tables.now here }
-    ensures { Gives seen_refs result (data_meant (frames_of tables.now) (here_in tables.now here) holder wanted sig.now.at sig.now.inverted (ANumber (seen_expr e.now))) }
+    ensures { Gives seen_refs result (data_meant (frames_of tables.now)
+        (here_in tables.now here) holder wanted sig.now.at sig.now.inverted (ANumber (seen_expr e.now))) }
 {
     let value = evaluate(alloc, tables.params(here), e, sig.at)?;
     let bits = number_bits(alloc, holder, place_in(e, sig.at), wanted, value)?;
@@ -178,7 +189,8 @@ fn data_signal(
     sig: &Sig,
 ) -> Result<List<Ref>, ElabFault>
     requires { IsHere tables.now here }
-    ensures { Gives seen_refs result (data_signal (frames_of tables.now) (here_in tables.now here) holder wanted (seen_sig sig.now)) }
+    ensures { Gives seen_refs result
+        (data_signal (frames_of tables.now) (here_in tables.now here) holder wanted (seen_sig sig.now)) }
 {
     match &sig.what {
         SigWhat::Value(e) => data_number(alloc, tables, here, holder, wanted, sig, e),
@@ -204,7 +216,8 @@ fn data_parts(
     sigs: &[Sig],
 ) -> Result<Vec<List<Ref>>, ElabFault>
     requires { IsHere tables.now here }
-    ensures { Gives (λ parts. map seen_refs parts.items) result (each (data_signal (frames_of tables.now) (here_in tables.now here) holder wanted) (map seen_sig sigs.now)) }
+    ensures { Gives (λ parts. map seen_refs parts.items) result (each (data_signal (frames_of tables.now)
+        (here_in tables.now here) holder wanted) (map seen_sig sigs.now)) }
 {
     let mut parts = Vec::new(alloc);
     for sig in sigs {
@@ -232,8 +245,9 @@ fn as_wide(holder: Place, width: u32, refs: List<Ref>) -> Result<List<Ref>, Elab
     }
 }
 
-/// The bits of data signals where so many are wanted (`CaptureSource`, the `Source` of a `DataOutPort`, the binding of a `DataInPort`), position 0 first.
-/// A number alone may be narrower. `WidthDiffers` at the holder.
+/// The bits of data signals where so many are wanted (`CaptureSource`, the `Source` of a `DataOutPort`, the
+/// binding of a `DataInPort`), position 0 first. A number alone may be narrower. `WidthDiffers` at the
+/// holder.
 #[tactic(auto, unfolding(crate::specs::Signals::data_signals))]
 pub fn data_signals(
     alloc: Global,
@@ -244,7 +258,8 @@ pub fn data_signals(
     sigs: &[Sig],
 ) -> Result<List<Ref>, ElabFault>
     requires { IsHere tables.now here }
-    ensures { Gives seen_refs result (data_signals (frames_of tables.now) (here_in tables.now here) holder width (map seen_sig sigs.now)) }
+    ensures { Gives seen_refs result
+        (data_signals (frames_of tables.now) (here_in tables.now here) holder width (map seen_sig sigs.now)) }
 {
     let wanted = lone_width(width, sigs);
     let parts = data_parts(alloc, tables, here, holder, wanted, sigs)?;
@@ -262,7 +277,8 @@ pub fn select_signals(
     sigs: &[Sig],
 ) -> Result<List<Ref>, ElabFault>
     requires { IsHere tables.now here }
-    ensures { Gives seen_refs result (select_signals (frames_of tables.now) (here_in tables.now here) holder (map seen_sig sigs.now)) }
+    ensures { Gives seen_refs result
+        (select_signals (frames_of tables.now) (here_in tables.now here) holder (map seen_sig sigs.now)) }
 {
     let parts = data_parts(alloc, tables, here, holder, None, sigs)?;
     let refs = side_by_side(alloc, &parts)?;
@@ -282,7 +298,8 @@ fn alias_path(
     range: &Option<Range>,
 ) -> Result<List<Ref>, ElabFault>
     requires { IsHere tables.now here }
-    ensures { Gives seen_refs result (alias_path (frames_of tables.now) (here_in tables.now here) at inverted (map bytes_of path.now) (option_map seen_range range.now)) }
+    ensures { Gives seen_refs result (alias_path (frames_of tables.now) (here_in tables.now here) at inverted
+        (map bytes_of path.now) (option_map seen_range range.now)) }
 {
     let t = path_from(alloc, tables, here, at, path)?;
     if inverted || !is_alias_source(&t.member.item.what) {
@@ -301,7 +318,8 @@ fn alias_signal(
     sig: &Sig,
 ) -> Result<List<Ref>, ElabFault>
     requires { IsHere tables.now here }
-    ensures { Gives seen_refs result (alias_meant (frames_of tables.now) (here_in tables.now here) sig.now.at sig.now.inverted (seen_sig_what sig.now.what)) }
+    ensures { Gives seen_refs result (alias_meant (frames_of tables.now)
+        (here_in tables.now here) sig.now.at sig.now.inverted (seen_sig_what sig.now.what)) }
 {
     match &sig.what {
         SigWhat::Value(_) => Err(ElabFault::WrongKind { at: sig.at }),
@@ -325,7 +343,8 @@ fn alias_parts(
     sigs: &[Sig],
 ) -> Result<Vec<List<Ref>>, ElabFault>
     requires { IsHere tables.now here }
-    ensures { Gives (λ parts. map seen_refs parts.items) result (each (λ s. alias_meant (frames_of tables.now) (here_in tables.now here) s.at s.inverted s.what) (map seen_sig sigs.now)) }
+    ensures { Gives (λ parts. map seen_refs parts.items) result (each (λ s. alias_meant (frames_of tables.now)
+        (here_in tables.now here) s.at s.inverted s.what) (map seen_sig sigs.now)) }
 {
     let mut parts = Vec::new(alloc);
     for sig in sigs {
@@ -335,7 +354,8 @@ fn alias_parts(
     Ok(parts)
 }
 
-/// The bits that an alias names, as many as it has, position 0 first: bits of registers and data ports, of this cell or below it.
+/// The bits that an alias names, as many as it has, position 0 first: bits of registers and data ports, of
+/// this cell or below it.
 #[tactic(auto, unfolding(crate::specs::Signals::alias_signals))]
 pub fn alias_signals(
     alloc: Global,
@@ -346,7 +366,8 @@ pub fn alias_signals(
     sigs: &[Sig],
 ) -> Result<List<Ref>, ElabFault>
     requires { IsHere tables.now here }
-    ensures { Gives seen_refs result (alias_signals (frames_of tables.now) (here_in tables.now here) holder width (map seen_sig sigs.now)) }
+    ensures { Gives seen_refs result (alias_signals (frames_of tables.now)
+        (here_in tables.now here) holder width (map seen_sig sigs.now)) }
 {
     let parts = alias_parts(alloc, tables, here, sigs)?;
     let refs = side_by_side(alloc, &parts)?;
@@ -358,7 +379,8 @@ pub fn alias_signals(
 /// Looks up the names in a control signal.
 fn control_signal(alloc: Global, tables: &Tables, here: u32, sig: &Sig) -> Result<(), ElabFault>
     requires { IsHere tables.now here }
-    ensures { Gives same result (control_meant (frames_of tables.now) (here_in tables.now here) sig.now.at (seen_sig_what sig.now.what)) }
+    ensures { Gives same result (control_meant (frames_of tables.now)
+        (here_in tables.now here) sig.now.at (seen_sig_what sig.now.what)) }
 {
     match &sig.what {
         SigWhat::Value(_) => Ok(()),
@@ -378,7 +400,8 @@ pub fn control_signals(
     sigs: &[Sig],
 ) -> Result<(), ElabFault>
     requires { IsHere tables.now here }
-    ensures { Gives same result (control_signals (frames_of tables.now) (here_in tables.now here) (map seen_sig sigs.now)) }
+    ensures { Gives same result
+        (control_signals (frames_of tables.now) (here_in tables.now here) (map seen_sig sigs.now)) }
 {
     for sig in sigs {
         control_signal(alloc, tables, here, sig)?;

@@ -33,7 +33,8 @@ fn is_of_child(path: &[SmallText]) -> bool
     path.len() == 2
 }
 
-/// Whether a scan signal may name what a path leads to: an own `ScanInPort`, a multiplexer, a register, or the `ScanOutPort` of an instance.
+/// Whether a scan signal may name what a path leads to: an own `ScanInPort`, a multiplexer, a register, or
+/// the `ScanOutPort` of an instance.
 pub(crate) fn is_scan_source(path: &[SmallText], what: &What) -> bool
     ensures { result ≡ is_scan_source (map bytes_of path.now) (seen_what what.now) }
 {
@@ -41,7 +42,8 @@ pub(crate) fn is_scan_source(path: &[SmallText], what: &What) -> bool
         || (is_of_child(path) && is_scan_out_port(what))
 }
 
-/// Whether a data signal may name what a path leads to: a register, an own `DataInPort`, or the `DataOutPort` of an instance.
+/// Whether a data signal may name what a path leads to: a register, an own `DataInPort`, or the `DataOutPort`
+/// of an instance.
 pub(crate) fn is_data_source(path: &[SmallText], what: &What) -> bool
     ensures { result ≡ is_data_source (map bytes_of path.now) (seen_what what.now) }
 {

@@ -7,7 +7,9 @@ ghost use Rattle.icl_declarations.specs.Tables.{seen_table};
 ghost use Rattle.icl_declarations.specs.Ranges.{one_bit, width};
 ghost use Rattle.icl_frames.specs.SeenFrames.{seen_frame};
 ghost use Rattle.icl_references.specs.Names.{child_cell, inside, known_cell, members, named};
-ghost use Rattle.icl_references.specs.Tables.{AreAllChildren, AreCellTables, AreEmpty, AreTables, IsCellTable, IsChildAdded, IsFrameAdded, IsHere, frames_in, frames_of, here_in, seen_member};
+ghost use Rattle.icl_references.specs.Tables.{AreAllChildren, AreCellTables, AreEmpty, AreTables};
+ghost use Rattle.icl_references.specs.Tables.{IsCellTable, IsChildAdded, IsFrameAdded, IsHere, frames_in};
+ghost use Rattle.icl_references.specs.Tables.{frames_of, here_in, seen_member};
 
 use icl_declarations::{ElabFault, ParamTable};
 use icl_frames::{Bounds, Frame, Scope, is_part};
@@ -154,7 +156,8 @@ fn add_frame(
     number: u32,
 ) -> Result<(), OutOfMemory>
     ensures long { length children.new.items ≡ length children.old.items }
-    ensures added { OnOk result (IsFrameAdded children.old.items children.new.items (seen_frame frame.now) number) }
+    ensures added { OnOk result
+        (IsFrameAdded children.old.items children.new.items (seen_frame frame.now) number) }
 {
     if let Some(parent) = frame.parent {
         add_child(alloc, children, parent, frame.name, number)?;
@@ -223,8 +226,8 @@ impl<'a> Tables<'a> {
         &self.cells[here as usize].members
     }
 
-    /// What a name is in a cell, where signals are looked up (IEEE 1687-2014, ICL): a port, a register, a multiplexer, an instance
-    /// or an alias. `NoName` where it is none.
+    /// What a name is in a cell, where signals are looked up (IEEE 1687-2014, ICL): a port, a register, a
+    /// multiplexer, an instance or an alias. `NoName` where it is none.
     pub fn named(
         &self,
         alloc: Global,
@@ -250,7 +253,8 @@ impl<'a> Tables<'a> {
     fn child(&self, here: u32, at: Place, name: &[u8]) -> Result<u32, ElabFault>
         requires { IsHere self.now here }
         ensures there { IfOk result (λ child. IsHere self.now child) }
-        ensures gives { Gives (here_in self.now) result (known_cell at (child_cell (frames_of self.now) here name.now)) }
+        ensures gives { Gives (here_in self.now) result
+            (known_cell at (child_cell (frames_of self.now) here name.now)) }
     {
         let children = &self.children[here as usize];
         match children.find(name) {
@@ -263,7 +267,8 @@ impl<'a> Tables<'a> {
     pub fn inside(&self, here: u32, at: Place, item: &Item) -> Result<u32, ElabFault>
         requires { IsHere self.now here }
         ensures there { IfOk result (λ child. IsHere self.now child) }
-        ensures gives { Gives (here_in self.now) result (inside (frames_of self.now) (here_in self.now here) at item.now.name.items (seen_what item.now.what)) }
+        ensures gives { Gives (here_in self.now) result (inside (frames_of self.now)
+            (here_in self.now here) at item.now.name.items (seen_what item.now.what)) }
     {
         match &item.what {
             What::Child { .. } => self.child(here, at, item.name.as_slice()),

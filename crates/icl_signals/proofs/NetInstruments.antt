@@ -1,14 +1,17 @@
 -- The instruments of the network of a hierarchy are well formed.
-use Rattle.std.proofs.Common.{◌≡◌, ◌<◌, ◌≤◌, ℕ, Bool, true, false, List, map, length, filter, Option, Some, Ok, refl, sym, ap, subst, ◌∙◌, arith}
+use Rattle.std.proofs.Common.{◌≡◌, ◌<◌, ◌≤◌, ℕ, Bool, true, false, List, map, length, filter, Option, Some}
+use Rattle.std.proofs.Common.{Ok, refl, sym, ap, subst, ◌∙◌, arith}
 use Rattle.std.specs.Prelude.{All, slice_get}
 use Rattle.std.specs.List.{AllByRecursion, enumerate_from}
 use Rattle.std.proofs.lemmas.Bool.{true≢false}
 use Rattle.std.proofs.lemmas.List.{length-map}
 use Rattle.std.proofs.lemmas.List.Elements.{All-from_recursion}
 use Rattle.ij_bits.specs.Different.{AreDifferent}
-use Rattle.icl_elab.specs.WellFormed.{is_thing, is_data_in, is_data_out, is_data_port, is_instrument, things_in, HasFewPorts, IsCell}
+use Rattle.icl_elab.specs.WellFormed.{is_thing, is_data_in, is_data_out, is_data_port, is_instrument}
+use Rattle.icl_elab.specs.WellFormed.{things_in, HasFewPorts, IsCell}
 use Rattle.icl_references.specs.declared.hier.Ref.{Ref}
-use Rattle.icl_references.specs.Roles.{Role, DataInput, DataOutput, PartOf, CellOf, part_of, part_at, part_width}
+use Rattle.icl_references.specs.Roles.{Role, DataInput, DataOutput, PartOf, CellOf, part_of, part_at}
+use Rattle.icl_references.specs.Roles.{part_width}
 use Rattle.icl_elab.specs.Laws.{IsRefOf, AreWired}
 use Rattle.net_graph.specs.declared.net.Inst.{Inst}
 use Rattle.net_graph.specs.declared.net.Net.{Net}
@@ -20,9 +23,13 @@ use Rattle.net_graph.specs.Nets.{IsInst}
 use Rattle.icl_signals.specs.declared.wires.Wire.{Wire}
 use Rattle.icl_signals.specs.Moves.{Entry}
 use Rattle.icl_signals.specs.PlainNets.{OutputOf, seen_input, seen_output, seen_inst}
-use Rattle.icl_signals.specs.Connecting.{instruments, parts_that, own_bits, output_of, input_from, input_of, instrument_of}
-use Rattle.icl_signals.proofs.Paired.{paired_length, paired_maps, paired_all, each_paired, each_itself, mapped_paired, all_at, all_kept, all_passing, all_and}
-use Rattle.icl_signals.proofs.ApartItems.{Apart, apart_kept, apart_weaker, apart_of_map, apart_in_map, apart_different, different_apart, in_kept, known_numbers, kept_items, numbers_rise}
+use Rattle.icl_signals.specs.Connecting.{instruments, parts_that, own_bits, output_of, input_from, input_of}
+use Rattle.icl_signals.specs.Connecting.{instrument_of}
+use Rattle.icl_signals.proofs.Paired.{paired_length, paired_maps, paired_all, each_paired, each_itself}
+use Rattle.icl_signals.proofs.Paired.{mapped_paired, all_at, all_kept, all_passing, all_and}
+use Rattle.icl_signals.proofs.ApartItems.{Apart, apart_kept, apart_weaker, apart_of_map, apart_in_map}
+use Rattle.icl_signals.proofs.ApartItems.{apart_different, different_apart, in_kept, known_numbers}
+use Rattle.icl_signals.proofs.ApartItems.{kept_items, numbers_rise}
 use Rattle.icl_signals.proofs.EntryNumbers.{all_instruments_known}
 use Rattle.icl_signals.proofs.NetParts.{IsNetOf, instrument_is, input_is}
 use Rattle.icl_signals.proofs.NetSignals.{IsShaped, input_there}
@@ -50,9 +57,11 @@ output_thing role h = absurd (true≢false (sym h))
 
 -- ---- fewer items
 
-fewer_apart : {A : Type 0} (R : A → A → Type 0) (test also : A → Bool) → ((x : A) → also x ≡ true → test x ≡ true) → (xs : List A)
+fewer_apart : {A : Type 0} (R : A → A → Type 0) (test also : A → Bool)
+    → ((x : A) → also x ≡ true → test x ≡ true) → (xs : List A)
     → Apart R (filter test xs) → Apart R (filter also xs)
-fewer_apart R test also f xs h = subst (Apart R) (filter_twice test also f xs) (apart_kept R also (filter test xs) h)
+fewer_apart R test also f xs h =
+    subst (Apart R) (filter_twice test also f xs) (apart_kept R also (filter test xs) h)
 
 -- ---- the ports of a cell
 
@@ -64,16 +73,19 @@ things_apart c i = apart_in_map (λ (p : PartOf). p.name) (λ a b. a ≡ b → �
     (different_apart (map (λ (p : PartOf). p.name) (things_in c)) i.thing_names)
 
 -- the names of the parts that pass a test differ, where each is a thing
-port_names : (test : Role → Bool) → ((role : Role) → test role ≡ true → is_thing role ≡ true) → (c : CellOf) → IsCell c
+port_names : (test : Role → Bool)
+    → ((role : Role) → test role ≡ true → is_thing role ≡ true) → (c : CellOf) → IsCell c
     → AreDifferent (map (λ (p : ℕ × PartOf). p.1.name) (parts_that test c))
 port_names test f c i =
     apart_different (map (λ (p : ℕ × PartOf). p.1.name) (parts_that test c))
     (apart_of_map (λ (p : ℕ × PartOf). p.1.name) (λ a b. a ≡ b → ⊥) (parts_that test c)
     (apart_in_map (λ (p : ℕ × PartOf). p.1) SameName (parts_that test c)
     (subst (Apart SameName) (sym (kept_items (λ (p : PartOf). test p.role) 0 c.parts))
-    (fewer_apart SameName (λ p. is_thing p.role) (λ p. test p.role) (λ p. f p.role) c.parts (things_apart c i)))))
+    (fewer_apart SameName (λ p. is_thing p.role) (λ p. test p.role)
+    (λ p. f p.role) c.parts (things_apart c i)))))
 
-length_parts : (test : Role → Bool) (c : CellOf) → length (parts_that test c) ≡ length (filter (λ (p : PartOf). test p.role) c.parts)
+length_parts : (test : Role → Bool) (c : CellOf)
+    → length (parts_that test c) ≡ length (filter (λ (p : PartOf). test p.role) c.parts)
 length_parts test c = sym (length-map (parts_that test c) (λ (p : ℕ × PartOf). p.1))
     ∙ ap length (kept_items (λ (p : PartOf). test p.role) 0 c.parts)
 
@@ -82,21 +94,28 @@ IsPortAt test c p = (slice_get c.parts p.0 ≡ Some p.1) × (test p.1.role ≡ t
 
 ports_known : (test : Role → Bool) (c : CellOf) → AllByRecursion (IsPortAt test c) (parts_that test c)
 ports_known test c =
-    all_and (λ (p : ℕ × PartOf). slice_get c.parts p.0 ≡ Some p.1) (λ (p : ℕ × PartOf). test p.1.role ≡ true) (parts_that test c)
-    (all_kept (λ (p : ℕ × PartOf). slice_get c.parts p.0 ≡ Some p.1) (λ p. test p.1.role) (enumerate_from 0 c.parts) (known_numbers c.parts))
+    all_and (λ (p : ℕ × PartOf). slice_get c.parts p.0 ≡ Some p.1)
+    (λ (p : ℕ × PartOf). test p.1.role ≡ true) (parts_that test c)
+    (all_kept (λ (p : ℕ × PartOf). slice_get c.parts p.0 ≡ Some p.1) (λ p. test p.1.role)
+    (enumerate_from 0 c.parts) (known_numbers c.parts))
     (all_passing (λ (p : ℕ × PartOf). test p.1.role) (enumerate_from 0 c.parts))
 
-port_width : (test : Role → Bool) → ((role : Role) → test role ≡ true → is_data_port role ≡ true) → (c : CellOf) → HasFewPorts c
+port_width : (test : Role → Bool)
+    → ((role : Role) → test role ≡ true → is_data_port role ≡ true) → (c : CellOf) → HasFewPorts c
     → (p : ℕ × PartOf) → IsPortAt test c p → part_width p.1 ≤ 64
 port_width test f c few p k =
-    let there = in_kept (λ (q : PartOf). is_data_port q.role) p.1 c.parts (record { place = p.0; is = k.0 }) (f p.1.role k.1) in
-    all_at (λ (q : PartOf). part_width q ≤ 64) (filter (λ (q : PartOf). is_data_port q.role) c.parts) there.place p.1 few.widths there.is
+    let there = in_kept (λ (q : PartOf). is_data_port q.role) p.1 c.parts
+    (record { place = p.0; is = k.0 }) (f p.1.role k.1) in
+    all_at (λ (q : PartOf). part_width q ≤ 64)
+    (filter (λ (q : PartOf). is_data_port q.role) c.parts) there.place p.1 few.widths there.is
 
-module _ (cells : List CellOf) (entry : Wire) (net : Net) (shaped : IsShaped cells entry net) (wired : AreWired cells) (named : AllByRecursion IsCell cells) where
+module _ (cells : List CellOf) (entry : Wire) (net : Net) (shaped : IsShaped cells entry net)
+    (wired : AreWired cells) (named : AllByRecursion IsCell cells) where
   abbrev IsInputPort : PortIn → Type 0
   IsInputPort port = (length port.bits.items ≤ 64) × All (IsInputOf net) port.bits.items
 
-  input_good : (cell : ℕ) (c : CellOf) → slice_get cells cell ≡ Some c → HasFewPorts c → (p : ℕ × PartOf) (port : PortIn)
+  input_good : (cell : ℕ) (c : CellOf) → slice_get cells cell ≡ Some c
+      → HasFewPorts c → (p : ℕ × PartOf) (port : PortIn)
       → IsPortAt is_data_in c p → input_of cells entry cell p ≡ Ok (seen_input port) → IsInputPort port
   input_good cell c at few p port k h =
       let i = input_is cells entry cell p port h in
@@ -109,11 +128,13 @@ module _ (cells : List CellOf) (entry : Wire) (net : Net) (shaped : IsShaped cel
       let wide = port_width is_data_in input_port c few p k in (
         omega (arith, long, own, wide),
         All-from_recursion (IsInputOf net) port.bits.items
-            (paired_all (IsRefOf cells) R (IsInputOf net) (λ r s g d. input_there cells entry net shaped wired p.1.at r s g d)
+            (paired_all (IsRefOf cells) R (IsInputOf net)
+            (λ r s g d. input_there cells entry net shaped wired p.1.at r s g d)
             (own_bits e) port.bits.items (own_there cells e there) bits),
       )
 
-  pub instrument_good : (c : ℕ × CellOf) (inst : Inst) → (slice_get cells c.0 ≡ Some c.1) × (is_instrument c.1 ≡ true)
+  pub instrument_good : (c : ℕ × CellOf) (inst : Inst)
+      → (slice_get cells c.0 ≡ Some c.1) × (is_instrument c.1 ≡ true)
       → instrument_of cells entry c ≡ Ok (seen_inst inst) → IsInst net inst
   instrument_good c inst k h =
       let i = instrument_is cells entry c inst h in
@@ -121,7 +142,8 @@ module _ (cells : List CellOf) (entry : Wire) (net : Net) (shaped : IsShaped cel
       let few = cell.ports k.1 in
       let R = λ (p : ℕ × PartOf) (port : PortIn). input_of cells entry c.0 p ≡ Ok (seen_input port) in
       let S = λ (p : ℕ × PartOf) (port : PortOut). output_of p ≡ seen_output port in
-      let ins = each_paired (input_of cells entry c.0) seen_input (parts_that is_data_in c.1) inst.ins.items i.ins in
+      let ins = each_paired (input_of cells entry c.0) seen_input
+      (parts_that is_data_in c.1) inst.ins.items i.ins in
       let outs = mapped_paired output_of seen_output (parts_that is_data_out c.1) inst.outs.items i.outs in
       let ins_long = paired_length R (parts_that is_data_in c.1) inst.ins.items ins in
       let outs_long = paired_length S (parts_that is_data_out c.1) inst.outs.items outs in
@@ -141,11 +163,13 @@ module _ (cells : List CellOf) (entry : Wire) (net : Net) (shaped : IsShaped cel
             (parts_that is_data_in c.1) inst.ins.items (ports_known is_data_in c.1) ins);
         outputs = All-from_recursion (λ (port : PortOut). port.width ≤ 64) inst.outs.items
             (paired_all (IsPortAt is_data_out c.1) S (λ (port : PortOut). port.width ≤ 64)
-            (λ p port g e. subst (λ (n : ℕ). n ≤ 64) (ap (λ (x : OutputOf). x.width) e) (port_width is_data_out output_port c.1 few p g))
+            (λ p port g e. subst (λ (n : ℕ). n ≤ 64) (ap (λ (x : OutputOf). x.width) e)
+            (port_width is_data_out output_port c.1 few p g))
             (parts_that is_data_out c.1) inst.outs.items (ports_known is_data_out c.1) outs);
         input_names =
             subst AreDifferent (paired_maps R (λ p. p.1.name) (λ port. port.name.items)
-            (λ p port g. (input_is cells entry c.0 p port g).name) (parts_that is_data_in c.1) inst.ins.items ins)
+            (λ p port g. (input_is cells entry c.0 p port g).name)
+            (parts_that is_data_in c.1) inst.ins.items ins)
             (port_names is_data_in input_thing c.1 cell);
         output_names =
             subst AreDifferent (paired_maps S (λ p. p.1.name) (λ port. port.name.items)
@@ -153,7 +177,8 @@ module _ (cells : List CellOf) (entry : Wire) (net : Net) (shaped : IsShaped cel
             (port_names is_data_out output_thing c.1 cell);
       }
 
-pub instruments_good : (cells : List CellOf) (net : Net) (n : IsNetOf cells net) → IsShaped cells n.entry net → AreWired cells
+pub instruments_good : (cells : List CellOf) (net : Net) (n : IsNetOf cells net)
+    → IsShaped cells n.entry net → AreWired cells
     → AllByRecursion IsCell cells → All (IsInst net) net.insts.items
 instruments_good cells net n shaped wired named =
     All-from_recursion (IsInst net) net.insts.items
@@ -164,13 +189,17 @@ instruments_good cells net n shaped wired named =
     (each_paired (instrument_of cells n.entry) seen_inst (instruments cells) net.insts.items n.insts))
 
 -- no node is two instruments
-pub instrument_nodes : (cells : List CellOf) (net : Net) (n : IsNetOf cells net) → AreDifferent (map (λ (i : Inst). i.node) net.insts.items)
+pub instrument_nodes : (cells : List CellOf) (net : Net) (n : IsNetOf cells net)
+    → AreDifferent (map (λ (i : Inst). i.node) net.insts.items)
 instrument_nodes cells net n =
     subst AreDifferent
-    (paired_maps (λ (c : ℕ × CellOf) (i : Inst). instrument_of cells n.entry c ≡ Ok (seen_inst i)) (λ c. c.0) (λ i. i.node)
+    (paired_maps (λ (c : ℕ × CellOf) (i : Inst). instrument_of cells n.entry c
+    ≡ Ok (seen_inst i)) (λ c. c.0) (λ i. i.node)
     (λ c i h. (instrument_is cells n.entry c i h).node) (instruments cells) net.insts.items
     (each_paired (instrument_of cells n.entry) seen_inst (instruments cells) net.insts.items n.insts))
     (apart_different (map (λ (c : ℕ × CellOf). c.0) (instruments cells))
     (apart_of_map (λ (c : ℕ × CellOf). c.0) (λ a b. a ≡ b → ⊥) (instruments cells)
-    (apart_weaker (λ (p q : ℕ × CellOf). p.0 < q.0) (λ p q. p.0 ≡ q.0 → ⊥) (λ p q lt e. omega (arith, lt, e)) (instruments cells)
-    (apart_kept (λ (p q : ℕ × CellOf). p.0 < q.0) (λ c. is_instrument c.1) (enumerate_from 0 cells) (numbers_rise 0 cells)))))
+    (apart_weaker (λ (p q : ℕ × CellOf). p.0 < q.0) (λ p q. p.0 ≡ q.0
+    → ⊥) (λ p q lt e. omega (arith, lt, e)) (instruments cells)
+    (apart_kept (λ (p q : ℕ × CellOf). p.0 < q.0) (λ c. is_instrument c.1)
+    (enumerate_from 0 cells) (numbers_rise 0 cells)))))

@@ -24,7 +24,8 @@ use Rattle.icl_signals.specs.Moves.{Entry}
 use Rattle.icl_signals.specs.PlainNets.{seen_row, seen_mux}
 use Rattle.icl_signals.specs.Connecting.{entries_that, select_from, row_from, mux_of}
 use Rattle.icl_signals.proofs.Joined.{part_wired}
-use Rattle.icl_signals.proofs.Paired.{paired_length, paired_maps, paired_all, each_paired, each_itself, all_and, all_in_map, all_weaker}
+use Rattle.icl_signals.proofs.Paired.{paired_length, paired_maps, paired_all, each_paired, each_itself}
+use Rattle.icl_signals.proofs.Paired.{all_and, all_in_map, all_weaker}
 use Rattle.icl_signals.proofs.EntryNumbers.{IsKept, all_kept_known}
 use Rattle.icl_signals.proofs.NetParts.{IsNetOf, mux_is, row_is}
 use Rattle.icl_signals.proofs.NetSignals.{IsShaped, select_there, scan_there}
@@ -32,15 +33,18 @@ use Rattle.icl_signals.proofs.PartFacts.{cell_below, part_named}
 use Rattle.icl_signals.proofs.RowsApart.{one_row_with}
 use Rattle.ij_text.proofs.Numbers.{tern_length}
 
-module _ (cells : List CellOf) (entry : Wire) (net : Net) (shaped : IsShaped cells entry net) (wired : AreWired cells) (named : AllByRecursion IsCell cells) where
+module _ (cells : List CellOf) (entry : Wire) (net : Net) (shaped : IsShaped cells entry net)
+    (wired : AreWired cells) (named : AllByRecursion IsCell cells) where
   abbrev IsWideRow : ℕ → Choice → Type 0
   IsWideRow width c = IsChoice (IsRefOf cells) width c × (1 ≤ length c.values)
 
-  row_good : (at : Place) (width : ℕ) (c : Choice) (row : Row) → IsWideRow width c → row_from cells entry at c ≡ Ok (seen_row row)
+  row_good : (at : Place) (width : ℕ) (c : Choice) (row : Row) → IsWideRow width c
+      → row_from cells entry at c ≡ Ok (seen_row row)
       → IsRow net width row
   row_good at width c row k h =
       let r = row_is cells entry at c row h in
-      let long : length c.values ≡ length row.values.items = ap length r.values ∙ length-map row.values.items tern_bits in
+      let long : length c.values ≡ length row.values.items =
+      ap length r.values ∙ length-map row.values.items tern_bits in
       let some = k.1 in
       let wide : AllByRecursion (λ (v : OpenBits). length v ≡ width) (map tern_bits row.values.items) =
       subst (AllByRecursion (λ (v : OpenBits). length v ≡ width)) r.values k.0.0 in
@@ -53,7 +57,8 @@ module _ (cells : List CellOf) (entry : Wire) (net : Net) (shaped : IsShaped cel
         source = scan_there cells entry net shaped at c.source row.from r.from;
       }
 
-  pub mux_good : (e : Entry) (mux : Mux) → IsKept cells is_mux e → mux_of cells entry e ≡ Ok (seen_mux mux) → IsMux net mux
+  pub mux_good : (e : Entry) (mux : Mux) → IsKept cells is_mux e
+      → mux_of cells entry e ≡ Ok (seen_mux mux) → IsMux net mux
   mux_good e mux k h =
       let m = mux_is cells entry e mux h in
       let part = part_wired cells wired e.cell e.part e.what k.0 in
@@ -79,23 +84,27 @@ module _ (cells : List CellOf) (entry : Wire) (net : Net) (shaped : IsShaped cel
         named = subst (λ (n : List ℕ). IsTrue (is_name n)) m.name names.name;
         at_least_one_bit = omega (arith, at_least_one_bit, width);
         select = All-from_recursion (IsBitOf net) mux.select.items
-            (paired_all (IsRefOf cells) R (IsBitOf net) (λ r b g d. select_there cells entry net shaped wired e.what.at r b g d) m.select mux.select.items role.0 bits);
+            (paired_all (IsRefOf cells) R (IsBitOf net) (λ r b g d. select_there cells entry net shaped wired
+            e.what.at r b g d) m.select mux.select.items role.0 bits);
         some_rows = omega (arith, some_rows, long);
         few_rows = omega (arith, few_rows, long);
         rows = All-from_recursion (IsRow net (length mux.select.items)) mux.rows.items
             (paired_all (IsWideRow (length mux.select.items)) S (IsRow net (length mux.select.items))
             (row_good e.what.at (length mux.select.items)) m.rows mux.rows.items
             (subst (λ n. AllByRecursion (IsWideRow n) m.rows) width
-            (all_and (IsChoice (IsRefOf cells) (length m.select)) (λ (c : Choice). 1 ≤ length c.values) m.rows role.1 has.3)) rows);
+            (all_and (IsChoice (IsRefOf cells) (length m.select))
+            (λ (c : Choice). 1 ≤ length c.values) m.rows role.1 has.3)) rows);
         one_row = one_row_with m.rows mux.rows.items role.2 values;
         node = omega (arith, below, node, nodes);
       }
 
-pub muxes_good : (cells : List CellOf) (net : Net) (n : IsNetOf cells net) → IsShaped cells n.entry net → AreWired cells
+pub muxes_good : (cells : List CellOf) (net : Net) (n : IsNetOf cells net)
+    → IsShaped cells n.entry net → AreWired cells
     → AllByRecursion IsCell cells → All (IsMux net) net.muxes.items
 muxes_good cells net n shaped wired named =
     All-from_recursion (IsMux net) net.muxes.items
-    (paired_all (IsKept cells is_mux) (λ (e : Entry) (m : Mux). mux_of cells n.entry e ≡ Ok (seen_mux m)) (IsMux net)
+    (paired_all (IsKept cells is_mux)
+    (λ (e : Entry) (m : Mux). mux_of cells n.entry e ≡ Ok (seen_mux m)) (IsMux net)
     (mux_good cells n.entry net shaped wired named)
     (entries_that is_mux cells) net.muxes.items (all_kept_known cells is_mux)
     (each_paired (mux_of cells n.entry) seen_mux (entries_that is_mux cells) net.muxes.items n.muxes))

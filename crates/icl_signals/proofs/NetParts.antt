@@ -6,7 +6,8 @@ use Rattle.icl_declarations.specs.Faults.{each}
 use Rattle.icl_declarations.specs.Values.{OpenBits}
 use Rattle.icl_elab.specs.WellFormed.{is_register, is_mux, is_thing, is_data_in, is_data_out}
 use Rattle.icl_references.specs.declared.hier.Ref.{Ref}
-use Rattle.icl_references.specs.Roles.{Choice, Role, AScanRegister, AScanMux, PartOf, CellOf, part_width, seen_word}
+use Rattle.icl_references.specs.Roles.{Choice, Role, AScanRegister, AScanMux, PartOf, CellOf, part_width}
+use Rattle.icl_references.specs.Roles.{seen_word}
 use Rattle.icl_frames.proofs.Answering.{both, ok_is}
 use Rattle.net_graph.specs.declared.net.Inst.{Inst}
 use Rattle.net_graph.specs.declared.net.Mux.{Mux}
@@ -17,31 +18,50 @@ use Rattle.net_graph.specs.declared.net.Row.{Row}
 use Rattle.net_graph.specs.declared.net.Thing.{Thing}
 use Rattle.icl_signals.specs.declared.wires.Wire.{Wire}
 use Rattle.icl_signals.specs.Moves.{Entry}
-use Rattle.icl_signals.specs.PlainNets.{RegisterOf, RowOf, MuxOf, InputOf, InstrumentOf, ThingOf, NetOf, seen_reg, seen_row, seen_mux, seen_input, seen_output, seen_inst, seen_node, seen_thing, seen_net}
-use Rattle.icl_signals.specs.Connecting.{entries_that, number_among, instruments, parts_that, own_bits, one_bit_of, resets, output_of, scan_from, scan_source, captures, register_from, register_of, select_from, row_from, mux_from, mux_of, input_from, input_of, instrument_of, spot_of, refs_of, thing_of, nodes_of, ends, network}
+use Rattle.icl_signals.specs.PlainNets.{RegisterOf, RowOf, MuxOf, InputOf, InstrumentOf, ThingOf, NetOf}
+use Rattle.icl_signals.specs.PlainNets.{seen_reg, seen_row, seen_mux, seen_input, seen_output, seen_inst}
+use Rattle.icl_signals.specs.PlainNets.{seen_node, seen_thing, seen_net}
+use Rattle.icl_signals.specs.Connecting.{entries_that, number_among, instruments, parts_that, own_bits}
+use Rattle.icl_signals.specs.Connecting.{one_bit_of, resets, output_of, scan_from, scan_source, captures}
+use Rattle.icl_signals.specs.Connecting.{register_from, register_of, select_from, row_from, mux_from, mux_of}
+use Rattle.icl_signals.specs.Connecting.{input_from, input_of, instrument_of, spot_of, refs_of, thing_of}
+use Rattle.icl_signals.specs.Connecting.{nodes_of, ends, network}
 
 pub record IsNetOf (cells : List CellOf) (net : Net) : Type 0 where
   pub entry : Wire
   pub exit : Wire
   pub place : Place
   pub output : scan_from cells entry place (one_bit_of exit.cell exit.part 0) ≡ Ok net.out
-  pub regs : each (register_of cells entry) (entries_that is_register cells) ≡ Ok (map seen_reg net.regs.items)
+  pub regs : each (register_of cells entry) (entries_that is_register cells)
+      ≡ Ok (map seen_reg net.regs.items)
   pub muxes : each (mux_of cells entry) (entries_that is_mux cells) ≡ Ok (map seen_mux net.muxes.items)
   pub insts : each (instrument_of cells entry) (instruments cells) ≡ Ok (map seen_inst net.insts.items)
   pub nodes : nodes_of cells ≡ map seen_node net.nodes.items
   pub things : map (thing_of cells entry) (entries_that is_thing cells) ≡ map seen_thing net.things.items
 
-pub net_is : (cells : List CellOf) (link instr : List ℕ) (net : Net) → network cells link instr ≡ Ok (seen_net net) → IsNetOf cells net
+pub net_is : (cells : List CellOf) (link instr : List ℕ) (net : Net)
+    → network cells link instr ≡ Ok (seen_net net) → IsNetOf cells net
 unfolding network
 net_is cells link instr net h =
     let e = both (ends cells link instr) _ (seen_net net) h in
-    let out = both (scan_from cells e.first.entry e.first.exit_place (one_bit_of e.first.exit.cell e.first.exit.part 0)) _
+    let out = both (scan_from cells e.first.entry e.first.exit_place
+    (one_bit_of e.first.exit.cell e.first.exit.part 0)) _
     (seen_net net) e.then' in
-    let regs = both (each (register_of cells e.first.entry) (entries_that is_register cells)) _ (seen_net net) out.then' in
-    let muxes = both (each (mux_of cells e.first.entry) (entries_that is_mux cells)) _ (seen_net net) regs.then' in
-    let insts = both (each (instrument_of cells e.first.entry) (instruments cells)) _ (seen_net net) muxes.then' in
+    let regs = both (each (register_of cells e.first.entry) (entries_that is_register cells)) _
+    (seen_net net) out.then' in
+    let muxes =
+    both (each (mux_of cells e.first.entry) (entries_that is_mux cells)) _ (seen_net net) regs.then' in
+    let insts =
+    both (each (instrument_of cells e.first.entry) (instruments cells)) _ (seen_net net) muxes.then' in
     let n : NetOf =
-    record { regs = regs.first; muxes = muxes.first; insts = insts.first; out = out.first; nodes = nodes_of cells; things = map (thing_of cells e.first.entry) (entries_that is_thing cells) } in
+    record {
+      regs = regs.first;
+      muxes = muxes.first;
+      insts = insts.first;
+      out = out.first;
+      nodes = nodes_of cells;
+      things = map (thing_of cells e.first.entry) (entries_that is_thing cells);
+    } in
     let same = ok_is n (seen_net net) insts.then' in
     record {
       entry = e.first.entry;
@@ -67,16 +87,25 @@ module _ (cells : List CellOf) (entry : Wire) where
     pub values : resets (part_width e.what) reset ≡ tern_bits reg.reset
     pub thing : number_among is_thing cells e.cell e.part ≡ reg.thing
 
-  pub register_is : (e : Entry) (reg : Reg) → register_of cells entry e ≡ Ok (seen_reg reg) → IsRegisterOf e reg
+  pub register_is : (e : Entry) (reg : Reg)
+      → register_of cells entry e ≡ Ok (seen_reg reg) → IsRegisterOf e reg
   unfolding register_of
   register_is e reg h = by_role e.what.role refl h
     where
-      by_role : (role : Role) → e.what.role ≡ role → register_from cells entry e role ≡ Ok (seen_reg reg) → IsRegisterOf e reg
+      by_role : (role : Role) → e.what.role ≡ role
+          → register_from cells entry e role ≡ Ok (seen_reg reg) → IsRegisterOf e reg
       by_role (AScanRegister scan capture reset) r g =
           let from = both (scan_source cells entry e.what.at scan) _ (seen_reg reg) g in
-          let signals = both (captures cells entry e.what.at (part_width e.what) capture) _ (seen_reg reg) from.then' in
+          let signals =
+          both (captures cells entry e.what.at (part_width e.what) capture) _ (seen_reg reg) from.then' in
           let n : RegisterOf =
-          record { width = part_width e.what; from = from.first; capture = signals.first; reset = resets (part_width e.what) reset; thing = number_among is_thing cells e.cell e.part } in
+          record {
+            width = part_width e.what;
+            from = from.first;
+            capture = signals.first;
+            reset = resets (part_width e.what) reset;
+            thing = number_among is_thing cells e.cell e.part;
+          } in
           let same = ok_is n (seen_reg reg) signals.then' in
           record {
             scan = scan;
@@ -104,11 +133,13 @@ module _ (cells : List CellOf) (entry : Wire) where
   unfolding mux_of
   mux_is e mux h = by_role e.what.role refl h
     where
-      by_role : (role : Role) → e.what.role ≡ role → mux_from cells entry e role ≡ Ok (seen_mux mux) → IsMuxOf e mux
+      by_role : (role : Role) → e.what.role ≡ role
+          → mux_from cells entry e role ≡ Ok (seen_mux mux) → IsMuxOf e mux
       by_role (AScanMux select rows) r g =
           let bits = both (each (select_from cells entry e.what.at) select) _ (seen_mux mux) g in
           let sources = both (each (row_from cells entry e.what.at) rows) _ (seen_mux mux) bits.then' in
-          let n : MuxOf = record { select = bits.first; rows = sources.first; node = e.cell; name = e.what.name } in
+          let n : MuxOf =
+          record { select = bits.first; rows = sources.first; node = e.cell; name = e.what.name } in
           let same = ok_is n (seen_mux mux) sources.then' in
           record {
             select = select;
@@ -125,23 +156,29 @@ module _ (cells : List CellOf) (entry : Wire) where
     pub from : scan_from cells entry at c.source ≡ Ok row.from
     pub values : c.values ≡ map tern_bits row.values.items
 
-  pub row_is : (at : Place) (c : Choice) (row : Row) → row_from cells entry at c ≡ Ok (seen_row row) → IsRowOf at c row
+  pub row_is : (at : Place) (c : Choice) (row : Row)
+      → row_from cells entry at c ≡ Ok (seen_row row) → IsRowOf at c row
   row_is at c row h =
       let from = both (scan_from cells entry at c.source) _ (seen_row row) h in
       let n : RowOf = record { values = c.values; from = from.first } in
       let same = ok_is n (seen_row row) from.then' in
-      record { from = from.is ∙ ap (λ (x : RowOf). Ok x.from) same; values = ap (λ (x : RowOf). x.values) same }
+      record {
+        from = from.is ∙ ap (λ (x : RowOf). Ok x.from) same;
+        values = ap (λ (x : RowOf). x.values) same;
+      }
 
   pub record IsInstrumentOf (c : ℕ × CellOf) (inst : Inst) : Type 0 where
     pub node : c.0 ≡ inst.node
     pub ins : each (input_of cells entry c.0) (parts_that is_data_in c.1) ≡ Ok (map seen_input inst.ins.items)
     pub outs : map output_of (parts_that is_data_out c.1) ≡ map seen_output inst.outs.items
 
-  pub instrument_is : (c : ℕ × CellOf) (inst : Inst) → instrument_of cells entry c ≡ Ok (seen_inst inst) → IsInstrumentOf c inst
+  pub instrument_is : (c : ℕ × CellOf) (inst : Inst)
+      → instrument_of cells entry c ≡ Ok (seen_inst inst) → IsInstrumentOf c inst
   unfolding instrument_of
   instrument_is c inst h =
       let ins = both (each (input_of cells entry c.0) (parts_that is_data_in c.1)) _ (seen_inst inst) h in
-      let n : InstrumentOf = record { node = c.0; ins = ins.first; outs = map output_of (parts_that is_data_out c.1) } in
+      let n : InstrumentOf =
+      record { node = c.0; ins = ins.first; outs = map output_of (parts_that is_data_out c.1) } in
       let same = ok_is n (seen_inst inst) ins.then' in
       record {
         node = ap (λ (x : InstrumentOf). x.node) same;
@@ -151,14 +188,20 @@ module _ (cells : List CellOf) (entry : Wire) where
 
   pub record IsInputPortOf (cell : ℕ) (p : ℕ × PartOf) (port : PortIn) : Type 0 where
     pub name : p.1.name ≡ port.name.items
-    pub bits : each (input_from cells entry p.1.at) (own_bits (record { cell = cell; part = p.0; what = p.1 })) ≡ Ok port.bits.items
+    pub bits : each (input_from cells entry p.1.at)
+        (own_bits (record { cell = cell; part = p.0; what = p.1 })) ≡ Ok port.bits.items
 
-  pub input_is : (cell : ℕ) (p : ℕ × PartOf) (port : PortIn) → input_of cells entry cell p ≡ Ok (seen_input port) → IsInputPortOf cell p port
+  pub input_is : (cell : ℕ) (p : ℕ × PartOf) (port : PortIn)
+      → input_of cells entry cell p ≡ Ok (seen_input port) → IsInputPortOf cell p port
   input_is cell p port h =
-      let bits = both (each (input_from cells entry p.1.at) (own_bits (record { cell = cell; part = p.0; what = p.1 }))) _ (seen_input port) h in
+      let bits = both (each (input_from cells entry p.1.at)
+      (own_bits (record { cell = cell; part = p.0; what = p.1 }))) _ (seen_input port) h in
       let n : InputOf = record { name = p.1.name; bits = bits.first } in
       let same = ok_is n (seen_input port) bits.then' in
-      record { name = ap (λ (x : InputOf). x.name) same; bits = bits.is ∙ ap (λ (x : InputOf). Ok x.bits) same }
+      record {
+        name = ap (λ (x : InputOf). x.name) same;
+        bits = bits.is ∙ ap (λ (x : InputOf). Ok x.bits) same;
+      }
 
   pub record IsThingOf (e : Entry) (t : Thing) : Type 0 where
     pub node : e.cell ≡ t.node

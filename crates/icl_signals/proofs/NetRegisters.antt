@@ -1,5 +1,6 @@
 -- The registers of the network of a hierarchy are well formed.
-use Rattle.std.proofs.Common.{◌≡◌, ℕ, zero, suc, true, List, length, replicate, IfSome, Option, Some, None, Ok, sym, ap, subst, ◌∙◌, arith}
+use Rattle.std.proofs.Common.{◌≡◌, ℕ, zero, suc, true, List, length, replicate, IfSome, Option, Some, None}
+use Rattle.std.proofs.Common.{Ok, sym, ap, subst, ◌∙◌, arith}
 use Rattle.std.specs.Prelude.{All}
 use Rattle.std.specs.List.{AllByRecursion}
 use Rattle.std.proofs.lemmas.List.{length-replicate}
@@ -21,7 +22,8 @@ use Rattle.net_graph.specs.Nets.{IsReg}
 use Rattle.icl_signals.specs.declared.wires.Wire.{Wire}
 use Rattle.icl_signals.specs.Moves.{Entry}
 use Rattle.icl_signals.specs.PlainNets.{seen_reg}
-use Rattle.icl_signals.specs.Connecting.{entries_that, number_among, resets, data_from, scan_source, captures, register_of}
+use Rattle.icl_signals.specs.Connecting.{entries_that, number_among, resets, data_from, scan_source, captures}
+use Rattle.icl_signals.specs.Connecting.{register_of}
 use Rattle.icl_signals.proofs.Joined.{part_wired}
 use Rattle.icl_signals.proofs.Paired.{paired_length, paired_all, each_paired, each_itself}
 use Rattle.icl_signals.proofs.EntryNumbers.{IsKept, all_kept_known, the_entry, entry_of_number}
@@ -35,19 +37,23 @@ all_replicated : {A : Type 0} (P : A → Type 0) (n : ℕ) (x : A) → P x → A
 all_replicated P zero x h = tt
 all_replicated P (suc n) x h = (h, all_replicated P n x h)
 
-length_resets : (width : ℕ) (reset : Option OpenBits) → IfSome reset (λ bits. length bits ≡ width) → length (resets width reset) ≡ width
+length_resets : (width : ℕ) (reset : Option OpenBits)
+    → IfSome reset (λ bits. length bits ≡ width) → length (resets width reset) ≡ width
 length_resets width None h = length-replicate width None
 length_resets width (Some bits) h = h
 
 module _ (cells : List CellOf) (entry : Wire) (net : Net) (shaped : IsShaped cells entry net) where
-  source_there : (at : Place) (o : Option Ref) (p : Point) → scan_source cells entry at o ≡ Ok p → IsPointOf net p
+  source_there : (at : Place) (o : Option Ref) (p : Point)
+      → scan_source cells entry at o ≡ Ok p → IsPointOf net p
   source_there at None p h = absurd cc
   source_there at (Some r) p h = scan_there cells entry net shaped at r p h
 
   module _ (wired : AreWired cells) where
-    captures_long : (at : Place) (width : ℕ) (o : Option (List Ref)) (signals : List Sig) → IfSome o (AreWide (IsRefOf cells) width)
+    captures_long : (at : Place) (width : ℕ) (o : Option (List Ref)) (signals : List Sig)
+        → IfSome o (AreWide (IsRefOf cells) width)
         → captures cells entry at width o ≡ Ok signals → length signals ≡ width
-    captures_long at width None signals w h = ap length (sym (ok_is (replicate width Absent) signals h)) ∙ length-replicate width Absent
+    captures_long at width None signals w h =
+        ap length (sym (ok_is (replicate width Absent) signals h)) ∙ length-replicate width Absent
     captures_long at width (Some refs) signals w h =
         sym (paired_length (λ (r : Ref) (s : Sig). data_from cells entry at r ≡ Ok s) refs signals
         (each_itself (data_from cells entry at) refs signals h)) ∙ w.1
@@ -55,14 +61,16 @@ module _ (cells : List CellOf) (entry : Wire) (net : Net) (shaped : IsShaped cel
     captures_there : (at : Place) (width : ℕ) (o : Option (List Ref)) (signals : List Sig)
         → IfSome o (AreWide (IsRefOf cells) width) → captures cells entry at width o ≡ Ok signals
         → AllByRecursion (IsSignalOf net) signals
-    captures_there at width None signals w h = subst (AllByRecursion (IsSignalOf net)) (ok_is (replicate width Absent) signals h)
+    captures_there at width None signals w h =
+        subst (AllByRecursion (IsSignalOf net)) (ok_is (replicate width Absent) signals h)
         (all_replicated (IsSignalOf net) width Absent tt)
     captures_there at width (Some refs) signals w h =
         paired_all (IsRefOf cells) (λ (r : Ref) (s : Sig). data_from cells entry at r ≡ Ok s) (IsSignalOf net)
         (λ r s g d. driven_signal net s (data_there cells entry net shaped wired at r s g d)) refs signals w.0
         (each_itself (data_from cells entry at) refs signals h)
 
-    pub register_good : (e : Entry) (reg : Reg) → IsKept cells is_register e → register_of cells entry e ≡ Ok (seen_reg reg) → IsReg net reg
+    pub register_good : (e : Entry) (reg : Reg) → IsKept cells is_register e
+        → register_of cells entry e ≡ Ok (seen_reg reg) → IsReg net reg
     register_good e reg k h =
         let r = register_is cells entry e reg h in
         let part = part_wired cells wired e.cell e.part e.what k.0 in
@@ -78,18 +86,22 @@ module _ (cells : List CellOf) (entry : Wire) (net : Net) (shaped : IsShaped cel
         record {
           at_least_one_bit = omega (arith, some, width);
           source = source_there e.what.at r.scan reg.from r.from;
-          captures = captures_long e.what.at (part_width e.what) r.capture reg.capture.items role.1 r.signals ∙ width;
+          captures = captures_long e.what.at
+              (part_width e.what) r.capture reg.capture.items role.1 r.signals ∙ width;
           signals = All-from_recursion (IsSignalOf net) reg.capture.items
               (captures_there e.what.at (part_width e.what) r.capture reg.capture.items role.1 r.signals);
-          resets = sym (tern_length reg.reset) ∙ ap length (sym r.values) ∙ length_resets (part_width e.what) r.reset role.2 ∙ width;
+          resets = sym (tern_length reg.reset) ∙ ap length (sym r.values)
+              ∙ length_resets (part_width e.what) r.reset role.2 ∙ width;
           thing = omega (arith, below, thing, things);
         }
 
-pub registers_good : (cells : List CellOf) (net : Net) (n : IsNetOf cells net) → IsShaped cells n.entry net → AreWired cells
+pub registers_good : (cells : List CellOf) (net : Net) (n : IsNetOf cells net)
+    → IsShaped cells n.entry net → AreWired cells
     → All (IsReg net) net.regs.items
 registers_good cells net n shaped wired =
     All-from_recursion (IsReg net) net.regs.items
-    (paired_all (IsKept cells is_register) (λ (e : Entry) (reg : Reg). register_of cells n.entry e ≡ Ok (seen_reg reg)) (IsReg net)
+    (paired_all (IsKept cells is_register)
+    (λ (e : Entry) (reg : Reg). register_of cells n.entry e ≡ Ok (seen_reg reg)) (IsReg net)
     (register_good cells n.entry net shaped wired)
     (entries_that is_register cells) net.regs.items (all_kept_known cells is_register)
     (each_paired (register_of cells n.entry) seen_reg (entries_that is_register cells) net.regs.items n.regs))

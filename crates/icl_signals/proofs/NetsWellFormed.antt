@@ -29,7 +29,8 @@ nets_are_well_formed cells link instr net h e =
       regs = registers_good cells net n shaped h.wired;
       muxes = muxes_good cells net n shaped h.wired h.cells_are;
       insts = instruments_good cells net n shaped h.wired h.cells_are;
-      output = scan_there cells n.entry net shaped n.place (one_bit_of n.exit.cell n.exit.part 0) net.out n.output;
+      output = scan_there cells n.entry net shaped n.place
+          (one_bit_of n.exit.cell n.exit.part 0) net.out n.output;
       things = things_good cells net n shaped h.wired h.cells_are;
       top = omega (arith, top, nodes);
       top_path = top_path cells h net n;
@@ -45,6 +46,7 @@ nets_are_well_formed cells link instr net h e =
       few_levels = few_levels cells h net n;
     }
 
-pub well_formed_if : (r : Result Net ConnectFault) (cells : List CellOf) (link instr : List ℕ) → Gives seen_net r (network cells link instr) → IfOk r (λ net. IsHierarchy cells → IsNet net)
+pub well_formed_if : (r : Result Net ConnectFault) (cells : List CellOf) (link instr : List ℕ)
+    → Gives seen_net r (network cells link instr) → IfOk r (λ net. IsHierarchy cells → IsNet net)
 well_formed_if (Ok net) cells link instr g = λ h. nets_are_well_formed cells link instr net h g
 well_formed_if (Err e) cells link instr g = tt

@@ -1,5 +1,6 @@
 -- Lists side by side: what a function gives for each item, as a list seen by a view.
-use Rattle.std.proofs.Common.{◌≡◌, ℕ, zero, suc, ◌<◌, Bool, true, false, List, [], ◌∷◌, map, length, filter, Some, Result, Ok, refl, ap, subst, ◌∙◌, arith}
+use Rattle.std.proofs.Common.{◌≡◌, ℕ, zero, suc, ◌<◌, Bool, true, false, List, [], ◌∷◌, map, length, filter}
+use Rattle.std.proofs.Common.{Some, Result, Ok, refl, ap, subst, ◌∙◌, arith}
 use Rattle.std.specs.Prelude.{slice_get}
 use Rattle.std.specs.List.{AllByRecursion}
 use Rattle.icl_declarations.specs.Faults.{◌>>=◌, each}
@@ -19,11 +20,13 @@ module _ {A : Type 0} (P : A → Type 0) where
   all_kept test [] h = tt
   all_kept test (x ∷ xs) h = by_test (test x) refl (all_kept test xs h.1)
     where
-      by_test : (b : Bool) → test x ≡ b → AllByRecursion P (filter test xs) → AllByRecursion P (filter test (x ∷ xs))
+      by_test : (b : Bool) → test x ≡ b → AllByRecursion P (filter test xs)
+          → AllByRecursion P (filter test (x ∷ xs))
       by_test true e g = rw e (h.0, g)
       by_test false e g = rw e g
 
-pub all_passing : {A : Type 0} (test : A → Bool) (xs : List A) → AllByRecursion (λ x. test x ≡ true) (filter test xs)
+pub all_passing : {A : Type 0} (test : A → Bool) (xs : List A)
+    → AllByRecursion (λ x. test x ≡ true) (filter test xs)
 all_passing test [] = tt
 all_passing {A} test (x ∷ xs) = by_test (test x) refl (all_passing test xs)
   where
@@ -41,11 +44,13 @@ module _ {A : Type 0} (P Q : A → Type 0) where
   all_and [] h g = tt
   all_and (x ∷ xs) h g = ((h.0, g.0), all_and xs h.1 g.1)
 
-pub all_of_map : {A B : Type 0} (f : A → B) (P : B → Type 0) (xs : List A) → AllByRecursion (λ x. P (f x)) xs → AllByRecursion P (map f xs)
+pub all_of_map : {A B : Type 0} (f : A → B) (P : B → Type 0) (xs : List A)
+    → AllByRecursion (λ x. P (f x)) xs → AllByRecursion P (map f xs)
 all_of_map f P [] h = tt
 all_of_map f P (x ∷ xs) h = (h.0, all_of_map f P xs h.1)
 
-pub all_in_map : {A B : Type 0} (f : A → B) (P : B → Type 0) (xs : List A) → AllByRecursion P (map f xs) → AllByRecursion (λ x. P (f x)) xs
+pub all_in_map : {A B : Type 0} (f : A → B) (P : B → Type 0) (xs : List A)
+    → AllByRecursion P (map f xs) → AllByRecursion (λ x. P (f x)) xs
 all_in_map f P [] h = tt
 all_in_map f P (x ∷ xs) h = (h.0, all_in_map f P xs h.1)
 
@@ -64,15 +69,18 @@ module _ {A B : Type 0} (R : A → B → Type 0) where
   paired_length (x ∷ xs) [] h = absurd h
   paired_length (x ∷ xs) (y ∷ ys) h = ap suc (paired_length xs ys h.1)
 
-  pub paired_maps : {C : Type 0} (f : A → C) (g : B → C) → ((x : A) (y : B) → R x y → f x ≡ g y) → (xs : List A) (ys : List B)
+  pub paired_maps : {C : Type 0} (f : A → C) (g : B → C)
+      → ((x : A) (y : B) → R x y → f x ≡ g y) → (xs : List A) (ys : List B)
       → Paired xs ys → map f xs ≡ map g ys
   paired_maps f g e [] [] h = refl
   paired_maps f g e [] (y ∷ ys) h = absurd h
   paired_maps f g e (x ∷ xs) [] h = absurd h
-  paired_maps f g e (x ∷ xs) (y ∷ ys) h = ap (λ l. f x ∷ l) (paired_maps f g e xs ys h.1) ∙ ap (λ z. z ∷ map g ys) (e x y h.0)
+  paired_maps f g e (x ∷ xs) (y ∷ ys) h =
+      ap (λ l. f x ∷ l) (paired_maps f g e xs ys h.1) ∙ ap (λ z. z ∷ map g ys) (e x y h.0)
 
 module _ {A B : Type 0} (P : A → Type 0) (R : A → B → Type 0) where
-  pub paired_all : (Q : B → Type 0) → ((x : A) (y : B) → P x → R x y → Q y) → (xs : List A) (ys : List B) → AllByRecursion P xs
+  pub paired_all : (Q : B → Type 0) → ((x : A) (y : B) → P x → R x y → Q y)
+      → (xs : List A) (ys : List B) → AllByRecursion P xs
       → Paired R xs ys → AllByRecursion Q ys
   paired_all Q f [] [] p h = tt
   paired_all Q f [] (y ∷ ys) p h = absurd h
@@ -80,7 +88,8 @@ module _ {A B : Type 0} (P : A → Type 0) (R : A → B → Type 0) where
   paired_all Q f (x ∷ xs) (y ∷ ys) p h = (f x y p.0 h.0, paired_all Q f xs ys p.1 h.1)
 
 -- what is given for each item
-pub each_paired : {A B C E : Type 0} (f : A → Result B E) (g : C → B) (xs : List A) (zs : List C) → each f xs ≡ Ok (map g zs)
+pub each_paired : {A B C E : Type 0} (f : A → Result B E) (g : C → B) (xs : List A) (zs : List C)
+    → each f xs ≡ Ok (map g zs)
     → Paired (λ x z. f x ≡ Ok (g z)) xs zs
 each_paired f g [] [] h = tt
 each_paired f g [] (z ∷ zs) h = absurd cc
@@ -98,19 +107,23 @@ each_paired f g (x ∷ xs) (z ∷ zs) h =
           (b.is ∙ ap (λ l. Ok l) (tail_same a.first (g z) b.first (map g zs) e)),
     )
 
-pub each_itself : {A B E : Type 0} (f : A → Result B E) (xs : List A) (ys : List B) → each f xs ≡ Ok ys → Paired (λ x y. f x ≡ Ok y) xs ys
+pub each_itself : {A B E : Type 0} (f : A → Result B E) (xs : List A) (ys : List B)
+    → each f xs ≡ Ok ys → Paired (λ x y. f x ≡ Ok y) xs ys
 each_itself {B = B} f xs ys h = each_paired f (λ y. y) xs ys (h ∙ ap (λ l. Ok l) (same ys))
   where
     same : (l : List B) → l ≡ map (λ y. y) l
     same [] = refl
     same (y ∷ l) = ap (λ m. y ∷ m) (same l)
 
-pub mapped_paired : {A B C : Type 0} (f : A → B) (g : C → B) (xs : List A) (zs : List C) → map f xs ≡ map g zs → Paired (λ x z. f x ≡ g z) xs zs
+pub mapped_paired : {A B C : Type 0} (f : A → B) (g : C → B) (xs : List A) (zs : List C)
+    → map f xs ≡ map g zs → Paired (λ x z. f x ≡ g z) xs zs
 mapped_paired f g [] [] h = tt
 mapped_paired f g [] (z ∷ zs) h = absurd cc
 mapped_paired f g (x ∷ xs) [] h = absurd cc
-mapped_paired f g (x ∷ xs) (z ∷ zs) h =
-    (head_same (f x) (g z) (map f xs) (map g zs) h, mapped_paired f g xs zs (tail_same (f x) (g z) (map f xs) (map g zs) h))
+mapped_paired f g (x ∷ xs) (z ∷ zs) h = (
+  head_same (f x) (g z) (map f xs) (map g zs) h,
+  mapped_paired f g xs zs (tail_same (f x) (g z) (map f xs) (map g zs) h),
+)
 
 -- ---- places
 
@@ -121,4 +134,5 @@ pub record IsAtPlace {A : Type 0} (xs : List A) (k : ℕ) : Type 0 where
 pub at_place : {A : Type 0} (xs : List A) (k : ℕ) → k < length xs → IsAtPlace xs k
 at_place [] k lt = absurd (omega (arith, lt))
 at_place (x ∷ xs) zero lt = record { item = x; is = refl }
-at_place (x ∷ xs) (suc k) lt = let p = at_place xs k (omega (arith, lt)) in record { item = p.item; is = p.is }
+at_place (x ∷ xs) (suc k) lt =
+    let p = at_place xs k (omega (arith, lt)) in record { item = p.item; is = p.is }

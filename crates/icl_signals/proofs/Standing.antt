@@ -3,11 +3,16 @@ use Rattle.std.proofs.Common.{◌≡◌, ℕ, Bool, true, false, cond, List, Opt
 use Rattle.std.specs.Prelude.{slice_get}
 use Rattle.icl_elab.specs.WellFormed.{is_register, is_mux, is_data_out}
 use Rattle.icl_references.specs.declared.hier.Ref.{Ref}
-use Rattle.icl_references.specs.Roles.{Role, ScanInput, ScanOutput, DataInput, DataOutput, ControlPort, AScanRegister, AScanMux, AnAliasOf, AnInstance, AnInterfaceOf, AnAccessLink, PartOf, CellOf, part_of, part_at}
+use Rattle.icl_references.specs.Roles.{Role, ScanInput, ScanOutput, DataInput, DataOutput, ControlPort}
+use Rattle.icl_references.specs.Roles.{AScanRegister, AScanMux, AnAliasOf, AnInstance, AnInterfaceOf}
+use Rattle.icl_references.specs.Roles.{AnAccessLink, PartOf, CellOf, part_of, part_at}
 use Rattle.icl_signals.specs.declared.wires.Wire.{Wire}
 use Rattle.icl_signals.specs.declared.wires.StandsFor.{StandsFor}
-use Rattle.icl_signals.specs.declared.wires.StandsFor.TheVariants.{Another, ARegisterBit, AMuxOutput, AnInstrumentOutput, TheEntry, AFreeInput, NothingAtAll}
-use Rattle.icl_signals.specs.Moves.{is_top, is_instrument_cell, one_ref, role_move, part_move, is_entry, stands_for}
+use Rattle.icl_signals.specs.declared.wires.StandsFor.TheVariants.{Another, ARegisterBit, AMuxOutput}
+use Rattle.icl_signals.specs.declared.wires.StandsFor.TheVariants.{AnInstrumentOutput, TheEntry, AFreeInput}
+use Rattle.icl_signals.specs.declared.wires.StandsFor.TheVariants.{NothingAtAll}
+use Rattle.icl_signals.specs.Moves.{is_top, is_instrument_cell, one_ref, role_move, part_move, is_entry}
+use Rattle.icl_signals.specs.Moves.{stands_for}
 
 -- what is so of the role, and of whether the cell is an instrument
 abbrev pub IsOfRole : StandsFor → Bool → Role → Type 0
@@ -23,17 +28,20 @@ of_ref : (o : Option Ref) (instrument : Bool) (role : Role) → IsOfRole (one_re
 of_ref None instrument role = tt
 of_ref (Some r) instrument role = tt
 
-role_is : (top instrument : Bool) (role : Role) (pos : ℕ) → IsOfRole (role_move top instrument role pos) instrument role
+role_is : (top instrument : Bool) (role : Role) (pos : ℕ)
+    → IsOfRole (role_move top instrument role pos) instrument role
 role_is top instrument (AScanRegister scan capture reset) pos = refl
 role_is top instrument (AScanMux select rows) pos = refl
 role_is top instrument (ScanInput bound) pos = of_ref bound instrument (ScanInput bound)
 role_is top instrument (ScanOutput source) pos = of_ref source instrument (ScanOutput source)
 role_is true instrument (DataInput bound) pos = tt
 role_is false instrument (DataInput None) pos = tt
-role_is false instrument (DataInput (Some refs)) pos = of_ref (slice_get refs pos) instrument (DataInput (Some refs))
+role_is false instrument (DataInput (Some refs)) pos =
+    of_ref (slice_get refs pos) instrument (DataInput (Some refs))
 role_is top true (DataOutput None) pos = (refl, refl)
 role_is top false (DataOutput None) pos = tt
-role_is top instrument (DataOutput (Some refs)) pos = of_ref (slice_get refs pos) instrument (DataOutput (Some refs))
+role_is top instrument (DataOutput (Some refs)) pos =
+    of_ref (slice_get refs pos) instrument (DataOutput (Some refs))
 role_is top instrument ControlPort pos = tt
 role_is top instrument (AnAliasOf refs) pos = tt
 role_is top instrument (AnInstance cell) pos = tt
@@ -56,7 +64,8 @@ IsAtSome TheEntry instrument o = Unit {0}
 IsAtSome AFreeInput instrument o = Unit {0}
 IsAtSome NothingAtAll instrument o = Unit {0}
 
-at_part : (stands : StandsFor) (instrument : Bool) (p : PartOf) → IsOfRole stands instrument p.role → IsAtSome stands instrument (Some p)
+at_part : (stands : StandsFor) (instrument : Bool) (p : PartOf)
+    → IsOfRole stands instrument p.role → IsAtSome stands instrument (Some p)
 at_part ARegisterBit instrument p h = record { part = p; there = refl; role = h }
 at_part AMuxOutput instrument p h = record { part = p; there = refl; role = h }
 at_part AnInstrumentOutput instrument p h = record { part = p; there = refl; role = h }
@@ -65,17 +74,23 @@ at_part TheEntry instrument p h = tt
 at_part AFreeInput instrument p h = tt
 at_part NothingAtAll instrument p h = tt
 
-part_is : (top instrument : Bool) (o : Option PartOf) (pos : ℕ) → IsAtSome (part_move top instrument o pos) instrument o
+part_is : (top instrument : Bool) (o : Option PartOf) (pos : ℕ)
+    → IsAtSome (part_move top instrument o pos) instrument o
 part_is top instrument None pos = tt
-part_is top instrument (Some p) pos = at_part (role_move top instrument p.role pos) instrument p (role_is top instrument p.role pos)
+part_is top instrument (Some p) pos =
+    at_part (role_move top instrument p.role pos) instrument p (role_is top instrument p.role pos)
 
-pub stands_at : (cells : List CellOf) (entry w : Wire) → IsAtSome (stands_for cells entry w) (is_instrument_cell cells w.cell) (part_at cells w.cell w.part)
+pub stands_at : (cells : List CellOf) (entry w : Wire)
+    → IsAtSome (stands_for cells entry w) (is_instrument_cell cells w.cell) (part_at cells w.cell w.part)
 unfolding stands_for
 stands_at cells entry w = by_test (is_entry entry w)
   where
-    by_test : (b : Bool) → IsAtSome (cond b TheEntry (part_move (is_top cells w.cell) (is_instrument_cell cells w.cell) (part_at cells w.cell w.part) w.pos)) (is_instrument_cell cells w.cell) (part_at cells w.cell w.part)
+    by_test : (b : Bool)
+        → IsAtSome (cond b TheEntry (part_move (is_top cells w.cell) (is_instrument_cell cells w.cell)
+        (part_at cells w.cell w.part) w.pos)) (is_instrument_cell cells w.cell) (part_at cells w.cell w.part)
     by_test true = tt
-    by_test false = part_is (is_top cells w.cell) (is_instrument_cell cells w.cell) (part_at cells w.cell w.part) w.pos
+    by_test false = part_is (is_top cells w.cell)
+        (is_instrument_cell cells w.cell) (part_at cells w.cell w.part) w.pos
 
 -- the cell of a part that is there
 pub record IsInCell (cells : List CellOf) (cell part : ℕ) (x : PartOf) : Type 0 where
@@ -83,9 +98,11 @@ pub record IsInCell (cells : List CellOf) (cell part : ℕ) (x : PartOf) : Type 
   pub cell_is : slice_get cells cell ≡ Some inside
   pub part_is : slice_get inside.parts part ≡ Some x
 
-pub in_cell : (cells : List CellOf) (cell part : ℕ) (x : PartOf) → part_at cells cell part ≡ Some x → IsInCell cells cell part x
+pub in_cell : (cells : List CellOf) (cell part : ℕ) (x : PartOf)
+    → part_at cells cell part ≡ Some x → IsInCell cells cell part x
 in_cell cells cell part x h = by_cell (slice_get cells cell) refl h
   where
-    by_cell : (o : Option CellOf) → slice_get cells cell ≡ o → part_of o part ≡ Some x → IsInCell cells cell part x
+    by_cell : (o : Option CellOf) → slice_get cells cell ≡ o
+        → part_of o part ≡ Some x → IsInCell cells cell part x
     by_cell None e g = absurd cc
     by_cell (Some c) e g = record { inside = c; cell_is = e; part_is = g }

@@ -1,4 +1,5 @@
--- In a hierarchy whose signals name bits that are there, a trace ends at a constant or at a bit that is there, and stands for what the end says.
+-- In a hierarchy whose signals name bits that are there, a trace ends at a constant or at a bit that is
+-- there, and stands for what the end says.
 use Rattle.std.proofs.Common.{◌≡◌, ◌+◌, ℕ, zero, suc, Bool, false, List, refl}
 use Rattle.ij_bits.specs.BitLists.{flip_if}
 use Rattle.icl_references.specs.declared.hier.Ref.{Ref}
@@ -7,7 +8,9 @@ use Rattle.icl_references.specs.Roles.{CellOf}
 use Rattle.icl_elab.specs.Laws.{IsRefOf, AreWired}
 use Rattle.icl_signals.specs.declared.wires.Wire.{Wire}
 use Rattle.icl_signals.specs.declared.wires.StandsFor.{StandsFor}
-use Rattle.icl_signals.specs.declared.wires.StandsFor.TheVariants.{Another, ARegisterBit, AMuxOutput, AnInstrumentOutput, TheEntry, AFreeInput, NothingAtAll}
+use Rattle.icl_signals.specs.declared.wires.StandsFor.TheVariants.{Another, ARegisterBit, AMuxOutput}
+use Rattle.icl_signals.specs.declared.wires.StandsFor.TheVariants.{AnInstrumentOutput, TheEntry, AFreeInput}
+use Rattle.icl_signals.specs.declared.wires.StandsFor.TheVariants.{NothingAtAll}
 use Rattle.icl_signals.specs.declared.wires.End.{End}
 use Rattle.icl_signals.specs.declared.wires.End.TheVariants.{AtConstant, AtBit, InLoop}
 use Rattle.icl_signals.specs.Moves.{stands_for}
@@ -24,7 +27,8 @@ module _ (cells : List CellOf) (entry : Wire) where
   EndsThere InLoop = Unit {0}
 
   module _ (wired : AreWired cells) where
-    follow_there : (n : ℕ) (inverted : Bool) (w : Wire) → IsBitThere cells w → EndsThere (follow cells entry n inverted w)
+    follow_there : (n : ℕ) (inverted : Bool) (w : Wire) → IsBitThere cells w
+        → EndsThere (follow cells entry n inverted w)
     follow_there zero inverted w h = tt
     follow_there (suc n) inverted w h = by_move (stands_for cells entry w) refl (λ b v. follow_there n b v)
       where
@@ -33,7 +37,8 @@ module _ (cells : List CellOf) (entry : Wire) where
             → EndsThere (from_move (follow cells entry n) inverted w s)
         by_move (Another (Fixed c)) e again = tt
         by_move (Another (Bit cell part pos turned)) e again = again (flip_if turned inverted)
-            (record { cell = cell; part = part; pos = pos }) (move_good cells entry w (Bit cell part pos turned) wired e)
+            (record { cell = cell; part = part; pos = pos })
+            (move_good cells entry w (Bit cell part pos turned) wired e)
         by_move ARegisterBit e again = (h, e)
         by_move AMuxOutput e again = (h, e)
         by_move AnInstrumentOutput e again = (h, e)

@@ -1,11 +1,14 @@
 -- Ends of traces along their ways: from a bit to the next one, and from the next one back.
-use Rattle.std.proofs.Common.{◌≡◌, ◌⊎◌, inl, inr, ◌+◌, ◌-◌, ◌<◌, ◌≤◌, ℕ, zero, suc, Bool, true, false, List, refl, sym, ap, subst, ◌∙◌, arith}
+use Rattle.std.proofs.Common.{◌≡◌, ◌⊎◌, inl, inr, ◌+◌, ◌-◌, ◌<◌, ◌≤◌, ℕ, zero, suc, Bool, true, false, List}
+use Rattle.std.proofs.Common.{refl, sym, ap, subst, ◌∙◌, arith}
 use Rattle.ij_bits.specs.BitLists.{flip_if}
 use Rattle.icl_references.specs.declared.hier.Ref.TheVariants.{Fixed, Bit}
 use Rattle.icl_references.specs.Roles.{CellOf}
 use Rattle.icl_signals.specs.declared.wires.Wire.{Wire}
 use Rattle.icl_signals.specs.declared.wires.StandsFor.{StandsFor}
-use Rattle.icl_signals.specs.declared.wires.StandsFor.TheVariants.{Another, ARegisterBit, AMuxOutput, AnInstrumentOutput, TheEntry, AFreeInput, NothingAtAll}
+use Rattle.icl_signals.specs.declared.wires.StandsFor.TheVariants.{Another, ARegisterBit, AMuxOutput}
+use Rattle.icl_signals.specs.declared.wires.StandsFor.TheVariants.{AnInstrumentOutput, TheEntry, AFreeInput}
+use Rattle.icl_signals.specs.declared.wires.StandsFor.TheVariants.{NothingAtAll}
 use Rattle.icl_signals.specs.Moves.{stands_for}
 use Rattle.icl_signals.specs.declared.wires.End.{End}
 use Rattle.icl_signals.specs.declared.wires.End.TheVariants.{AtConstant, AtBit, InLoop}
@@ -53,11 +56,15 @@ module _ (cells : List CellOf) (entry : Wire) where
   told_turned t InLoop h = h
 
   -- the trace of the inverse ends with the inverse
-  turned : (n : ℕ) (t i : Bool) (w : Wire) → follow cells entry n (flip_if t i) w ≡ turned_end t (follow cells entry n i w)
+  turned : (n : ℕ) (t i : Bool) (w : Wire)
+      → follow cells entry n (flip_if t i) w ≡ turned_end t (follow cells entry n i w)
   turned zero t i w = refl
   turned (suc n) t i w = by_stands (stands_for cells entry w) (λ j v. turned n t j v)
     where
-      by_stands : (s : StandsFor) → ((j : Bool) (v : Wire) → follow cells entry n (flip_if t j) v ≡ turned_end t (follow cells entry n j v)) → from_move (follow cells entry n) (flip_if t i) w s ≡ turned_end t (from_move (follow cells entry n) i w s)
+      by_stands : (s : StandsFor) → ((j : Bool) (v : Wire)
+          → follow cells entry n (flip_if t j) v ≡ turned_end t (follow cells entry n j v))
+          → from_move (follow cells entry n) (flip_if t i) w s
+          ≡ turned_end t (from_move (follow cells entry n) i w s)
       by_stands (Another (Fixed b)) again = ap (λ c. AtConstant c) (flip_flip t i b)
       by_stands (Another (Bit cell part pos u)) again =
           let v : Wire = record { cell = cell; part = part; pos = pos } in
@@ -70,12 +77,16 @@ module _ (cells : List CellOf) (entry : Wire) where
       by_stands NothingAtAll again = refl
 
   -- a bit that was found, inverted or not
-  pub from_found : (w : Wire) (f : Found) → IsFound cells entry w f → (n : ℕ) (i : Bool) → f.looks ≤ n → follow cells entry n i w ≡ turned_end i f.end
+  pub from_found : (w : Wire) (f : Found) → IsFound cells entry w f → (n : ℕ) (i : Bool) → f.looks ≤ n
+      → follow cells entry n i w ≡ turned_end i f.end
   from_found w f h n i le =
-      ap (λ c. follow cells entry n c w) (sym (flip_false i)) ∙ turned n i false w ∙ ap (turned_end i) (h.ends n le)
+      ap (λ c. follow cells entry n c w) (sym (flip_false i))
+      ∙ turned n i false w ∙ ap (turned_end i) (h.ends n le)
 
   -- the next bit of a bit that was found
-  pub next_found : (w : Wire) (f : Found) (j : Bool) (v : Wire) (g : Found) → IsFound cells entry w f → ((n : ℕ) → follow cells entry (suc n) false w ≡ follow cells entry n j v) → f.looks ≤ suc g.looks → g.end ≡ turned_end j f.end → IsFound cells entry v g
+  pub next_found : (w : Wire) (f : Found) (j : Bool) (v : Wire) (g : Found) → IsFound cells entry w f
+      → ((n : ℕ) → follow cells entry (suc n) false w ≡ follow cells entry n j v) → f.looks ≤ suc g.looks
+      → g.end ≡ turned_end j f.end → IsFound cells entry v g
   next_found w f j v g h move looks e =
       record {
         ends = λ n le.
@@ -98,7 +109,8 @@ module _ (cells : List CellOf) (entry : Wire) where
     pub before : after ≤ moves
     pub rest : (n : ℕ) → follow cells entry (n + after) false start ≡ follow cells entry n inverted wire
 
-  from_start : (start : Wire) (n : ℕ) → follow cells entry (n + 0) false start ≡ follow cells entry n false start
+  from_start : (start : Wire) (n : ℕ)
+      → follow cells entry (n + 0) false start ≡ follow cells entry n false start
   from_start start n = let e : n + 0 ≡ n = omega arith in ap (λ k. follow cells entry k false start) e
 
   pub begins : (start : Wire) → IsOnWay start 0 false start
@@ -111,28 +123,35 @@ module _ (cells : List CellOf) (entry : Wire) where
   pub met_first : (start : Wire) → IsMet start 0 start
   met_first start = record { after = 0; inverted = false; before = omega arith; rest = from_start start }
 
-  pub moved : (start : Wire) (k : ℕ) (i : Bool) (w : Wire) (j : Bool) (v : Wire) → IsOnWay start k i w → ((n : ℕ) → follow cells entry (suc n) i w ≡ follow cells entry n j v) → IsOnWay start (k + 1) j v
+  pub moved : (start : Wire) (k : ℕ) (i : Bool) (w : Wire) (j : Bool) (v : Wire) → IsOnWay start k i w
+      → ((n : ℕ) → follow cells entry (suc n) i w ≡ follow cells entry n j v) → IsOnWay start (k + 1) j v
   moved start k i w j v h move = record { going = going_on; rest = rest_on }
     where
       rest_on : (n : ℕ) → follow cells entry (n + (k + 1)) false start ≡ follow cells entry n j v
-      rest_on n = let e : n + (k + 1) ≡ suc n + k = omega arith in ap (λ m. follow cells entry m false start) e ∙ h.rest (suc n) ∙ move n
+      rest_on n = let e : n + (k + 1) ≡ suc n + k = omega arith in
+          ap (λ m. follow cells entry m false start) e ∙ h.rest (suc n) ∙ move n
 
       by_place : (n : ℕ) → n ≤ k + 1 → (n ≤ k) ⊎ (k < n) → follow cells entry n false start ≡ InLoop
       by_place n le (inl here) = h.going n here
-      by_place n le (inr past) = let e : n ≡ 0 + (k + 1) = omega (arith, le, past) in ap (λ m. follow cells entry m false start) e ∙ rest_on 0
+      by_place n le (inr past) =
+          let e : n ≡ 0 + (k + 1) = omega (arith, le, past) in
+          ap (λ m. follow cells entry m false start) e ∙ rest_on 0
 
       going_on : (n : ℕ) → n ≤ k + 1 → follow cells entry n false start ≡ InLoop
       going_on n le = by_place n le (up_to_or_past n k)
 
   -- the mark stays where it was, or moves on to the bit at which the trace is
   pub met_before : (start : Wire) (k : ℕ) (m : Wire) → IsMet start k m → IsMet start (k + 1) m
-  met_before start k m h = let le = h.before in record { after = h.after; inverted = h.inverted; before = omega (arith, le); rest = h.rest }
+  met_before start k m h = let le = h.before in
+      record { after = h.after; inverted = h.inverted; before = omega (arith, le); rest = h.rest }
 
   pub met_now : (start : Wire) (k : ℕ) (i : Bool) (w : Wire) → IsOnWay start k i w → IsMet start k w
   met_now start k i w h = record { after = k; inverted = i; before = omega arith; rest = h.rest }
 
   -- it ends with the next look
-  pub ended : (start : Wire) (k : ℕ) (i : Bool) (w : Wire) (f : Found) → IsOnWay start k i w → ((n : ℕ) → follow cells entry (suc n) i w ≡ f.end) → f.looks ≡ k + 1 → IsTold cells entry f.end → IsFound cells entry start f
+  pub ended : (start : Wire) (k : ℕ) (i : Bool) (w : Wire) (f : Found) → IsOnWay start k i w
+      → ((n : ℕ) → follow cells entry (suc n) i w ≡ f.end) → f.looks ≡ k + 1
+      → IsTold cells entry f.end → IsFound cells entry start f
   ended start k i w f h look looks told =
       record {
         ends = λ n le.
@@ -143,23 +162,28 @@ module _ (cells : List CellOf) (entry : Wire) where
       }
 
   -- it goes on with a bit that was found
-  pub goes_on : (start : Wire) (k : ℕ) (i : Bool) (w : Wire) (f g : Found) → IsOnWay start k i w → IsFound cells entry w f → g.looks ≡ k + f.looks → g.end ≡ turned_end i f.end → IsFound cells entry start g
+  pub goes_on : (start : Wire) (k : ℕ) (i : Bool) (w : Wire) (f g : Found) → IsOnWay start k i w
+      → IsFound cells entry w f → g.looks ≡ k + f.looks
+      → g.end ≡ turned_end i f.end → IsFound cells entry start g
   goes_on start k i w f g h found looks e =
       record {
         ends = λ n le.
             let left : ℕ = n - k in
             let m : n ≡ left + k = omega (arith, looks, le) in
             let enough : f.looks ≤ left = omega (arith, looks, le) in
-            ap (λ c. follow cells entry c false start) m ∙ h.rest left ∙ from_found w f found left i enough ∙ sym e;
+            ap (λ c. follow cells entry c false start) m ∙ h.rest left
+            ∙ from_found w f found left i enough ∙ sym e;
         told = subst (IsTold cells entry) (sym e) (told_turned i f.end found.told);
       }
 
   -- it comes back to a bit that it met
-  pub comes_back : (start : Wire) (k : ℕ) (i : Bool) (w : Wire) → IsMet start k w → IsOnWay start (k + 1) i w → (n : ℕ) → follow cells entry n false start ≡ InLoop
+  pub comes_back : (start : Wire) (k : ℕ) (i : Bool) (w : Wire) → IsMet start k w → IsOnWay start (k + 1) i w
+      → (n : ℕ) → follow cells entry n false start ≡ InLoop
   comes_back start k i w met h n = up_to n n (omega arith)
     where
       -- so many looks less at the bit that it met before
-      round : (n : ℕ) → k + 1 < n → ((m : ℕ) → m < n → follow cells entry m false start ≡ InLoop) → follow cells entry n false start ≡ InLoop
+      round : (n : ℕ) → k + 1 < n → ((m : ℕ) → m < n → follow cells entry m false start ≡ InLoop)
+          → follow cells entry n false start ≡ InLoop
       round n past fewer =
           let before = met.before in
           let left : ℕ = n - (k + 1) in
@@ -170,7 +194,9 @@ module _ (cells : List CellOf) (entry : Wire) where
           ∙ ap (λ c. follow cells entry left c w) (sym d.1) ∙ turned left d.0 met.inverted w
           ∙ ap (turned_end d.0) (sym (met.rest left) ∙ fewer (left + met.after) lt)
 
-      by_place : (n : ℕ) → (n ≤ k + 1) ⊎ (k + 1 < n) → ((m : ℕ) → m < n → follow cells entry m false start ≡ InLoop) → follow cells entry n false start ≡ InLoop
+      by_place : (n : ℕ) → (n ≤ k + 1) ⊎ (k + 1 < n)
+          → ((m : ℕ) → m < n → follow cells entry m false start ≡ InLoop)
+          → follow cells entry n false start ≡ InLoop
       by_place n (inl here) fewer = h.going n here
       by_place n (inr past) fewer = round n past fewer
 

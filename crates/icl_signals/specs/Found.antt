@@ -1,4 +1,5 @@
--- Ends of traces that were found: each is where the trace of its bit ends that looks at so many bits, or at more.
+-- Ends of traces that were found: each is where the trace of its bit ends that looks at so many bits, or at
+-- more.
 use Rattle.std.specs.Prelude.{◌≡◌, ◌≤◌, ℕ, Bool, false, List, Option, Some, None, All}
 use Rattle.ij_bits.specs.BitLists.{flip_if}
 use Rattle.icl_references.specs.Roles.{CellOf}

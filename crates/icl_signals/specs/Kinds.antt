@@ -1,7 +1,9 @@
--- What the network numbers (IEEE 1687-2014, ICL: ScanRegister, ScanMux, data ports, Alias), and how many stand before.
+-- What the network numbers (IEEE 1687-2014, ICL: ScanRegister, ScanMux, data ports, Alias), and how many
+-- stand before.
 use Rattle.std.specs.Prelude.{ℕ, ◌+◌, Bool, false, cond, is_some, List, [], ◌∷◌, get_or}
 use Rattle.icl_elab.specs.WellFormed.{is_register, is_mux, is_thing, is_data_out, is_data_in}
-use Rattle.icl_references.specs.Roles.{Role, ScanInput, ScanOutput, DataInput, DataOutput, PartOf, CellOf, part_width}
+use Rattle.icl_references.specs.Roles.{Role, ScanInput, ScanOutput, DataInput, DataOutput, PartOf, CellOf}
+use Rattle.icl_references.specs.Roles.{part_width}
 use Rattle.icl_signals.specs.declared.parts.Kind.{Kind}
 use Rattle.icl_signals.specs.declared.parts.Kind.TheVariants.{Register, Mux, Thing, Output, Input}
 
@@ -40,7 +42,8 @@ with_all test n (x ∷ xs) = with_all test (n + one_if (test x)) xs
 -- for each part of each cell, how many of a kind stand before it in the whole hierarchy
 abbrev pub numbers_from : Kind → ℕ → List CellOf → List (List ℕ)
 numbers_from kind n [] = []
-numbers_from kind n (c ∷ cs) = before (is_of kind) n c.parts ∷ numbers_from kind (with_all (is_of kind) n c.parts) cs
+numbers_from kind n (c ∷ cs) = before (is_of kind) n c.parts
+    ∷ numbers_from kind (with_all (is_of kind) n c.parts) cs
 
 -- the number at a part, 0 for one that isn't there
 abbrev pub number_at : List (List ℕ) → ℕ → ℕ → ℕ

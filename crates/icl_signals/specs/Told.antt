@@ -1,4 +1,5 @@
--- What the code says of ends and entries: an end says truly what its bit stands for, and an entry is a part at its place.
+-- What the code says of ends and entries: an end says truly what its bit stands for, and an entry is a part
+-- at its place.
 use Rattle.std.specs.Prelude.{◌≡◌, Bool, List, All, Some}
 use Rattle.icl_references.specs.Roles.{CellOf, part_at, seen_part}
 use Rattle.icl_signals.specs.declared.wires.Wire.{Wire}

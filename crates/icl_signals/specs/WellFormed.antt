@@ -8,4 +8,5 @@ use Rattle.icl_signals.specs.PlainNets.{seen_net}
 use Rattle.icl_signals.specs.Connecting.{network}
 
 abbrev pub NetsAreWellFormed : Type 0
-NetsAreWellFormed = (cells : List CellOf) (link instr : List ℕ) (net : Net) → IsHierarchy cells → network cells link instr ≡ Ok (seen_net net) → IsNet net
+NetsAreWellFormed = (cells : List CellOf) (link instr : List ℕ) (net : Net) → IsHierarchy cells
+    → network cells link instr ≡ Ok (seen_net net) → IsNet net

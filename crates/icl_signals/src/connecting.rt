@@ -7,7 +7,8 @@ ghost use Rattle.net_graph.specs.Nets.{IsNet};
 ghost use Rattle.icl_signals.specs.Refusals.{Gives};
 ghost use Rattle.icl_signals.specs.Wirings.{IsWiring, cells_of};
 ghost use Rattle.icl_signals.specs.PlainNets.{seen_mux, seen_net, seen_reg, seen_thing};
-ghost use Rattle.icl_signals.specs.Connecting.{entries_that, mux_of, network, network_from, register_of, thing_of};
+ghost use Rattle.icl_signals.specs.Connecting.{entries_that, mux_of, network, network_from, register_of};
+ghost use Rattle.icl_signals.specs.Connecting.{thing_of};
 
 use crate::ConnectFault;
 use crate::ends::scan_from;
@@ -30,7 +31,8 @@ use std::alloc::Global;
 /// The registers.
 fn own_registers(alloc: Global, wiring: &Wiring) -> Result<List<Reg>, ConnectFault>
     requires { IsWiring wiring.now }
-    ensures { Gives (λ all. map seen_reg all.items) result (each (register_of (cells_of wiring.now) wiring.now.entry) (entries_that is_register (cells_of wiring.now))) }
+    ensures { Gives (λ all. map seen_reg all.items) result (each (register_of
+        (cells_of wiring.now) wiring.now.entry) (entries_that is_register (cells_of wiring.now))) }
 {
     let parts = entries_of(alloc, Kind::Register, wiring.hier)?;
     let regs = registers(alloc, wiring, parts.as_slice());
@@ -41,7 +43,8 @@ fn own_registers(alloc: Global, wiring: &Wiring) -> Result<List<Reg>, ConnectFau
 /// The multiplexers.
 fn own_muxes(alloc: Global, wiring: &Wiring) -> Result<List<Mux>, ConnectFault>
     requires { IsWiring wiring.now }
-    ensures { Gives (λ all. map seen_mux all.items) result (each (mux_of (cells_of wiring.now) wiring.now.entry) (entries_that is_mux (cells_of wiring.now))) }
+    ensures { Gives (λ all. map seen_mux all.items) result
+        (each (mux_of (cells_of wiring.now) wiring.now.entry) (entries_that is_mux (cells_of wiring.now))) }
 {
     let parts = entries_of(alloc, Kind::Mux, wiring.hier)?;
     let muxes = muxes(alloc, wiring, parts.as_slice());
@@ -52,7 +55,8 @@ fn own_muxes(alloc: Global, wiring: &Wiring) -> Result<List<Mux>, ConnectFault>
 /// What procedures may name.
 fn own_things(alloc: Global, wiring: &Wiring) -> Result<List<Thing>, OutOfMemory>
     requires { IsWiring wiring.now }
-    ensures { IfOk result (λ all. map seen_thing all.items ≡ map (thing_of (cells_of wiring.now) wiring.now.entry) (entries_that is_thing (cells_of wiring.now))) }
+    ensures { IfOk result (λ all. map seen_thing all.items ≡ map
+        (thing_of (cells_of wiring.now) wiring.now.entry) (entries_that is_thing (cells_of wiring.now))) }
 {
     let parts = entries_of(alloc, Kind::Thing, wiring.hier)?;
     let things = things(alloc, wiring, parts.as_slice());
@@ -102,18 +106,21 @@ fn network_of(alloc: Global, hier: &Hier, link: &Name, instr: &Name) -> Result<N
     net
 }
 
-/// The flat network between the two ends of the interface that an instruction of an access link selects (IEEE 1687-2014, ICL:
-/// AccessLink). Each scan source, capture bit, select bit, row, instrument input and thing is where its signal's trace ends.
-/// Registers, multiplexers, instruments and things stand in the order of the cells, and in a cell in the order of the text.
+/// The flat network between the two ends of the interface that an instruction of an access link selects (IEEE
+/// 1687-2014, ICL: AccessLink). Each scan source, capture bit, select bit, row, instrument input and thing is
+/// where its signal's trace ends. Registers, multiplexers, instruments and things stand in the order of the
+/// cells, and in a cell in the order of the text.
 ///
-/// The first fault on the way is the answer, in this order: `NoLink` where the top has no such link and instruction, or its
-/// interface hasn't exactly one `ScanInPort` and one `ScanOutPort`; then the output's source, the registers (each one's scan
-/// source, then what it captures), the multiplexers (each one's select bits, then its rows) and the inputs of instruments, with
-/// `Undriven` where a trace ends at nothing that drives it, `SignalLoop` where it comes back to a bit that it left, `BadSelect`
-/// where a select bit is no register bit or is inverted, and `InstrumentChain` where an instrument drives an instrument.
-/// `OutOfMemory` may come at any point.
+/// The first fault on the way is the answer, in this order: `NoLink` where the top has no such link and
+/// instruction, or its interface hasn't exactly one `ScanInPort` and one `ScanOutPort`; then the output's
+/// source, the registers (each one's scan source, then what it captures), the multiplexers (each one's select
+/// bits, then its rows) and the inputs of instruments, with `Undriven` where a trace ends at nothing that
+/// drives it, `SignalLoop` where it comes back to a bit that it left, `BadSelect` where a select bit is no
+/// register bit or is inverted, and `InstrumentChain` where an instrument drives an instrument. `OutOfMemory`
+/// may come at any point.
 ///
-/// The network of a well formed hierarchy, as `icl_elab::elaborate` gives it of a design that the grammar gave, is well formed.
+/// The network of a well formed hierarchy, as `icl_elab::elaborate` gives it of a design that the grammar
+/// gave, is well formed.
 pub fn connect(alloc: Global, hier: &Hier, link: &Name, instr: &Name) -> Result<Net, ConnectFault>
     ensures gives { Gives seen_net result (network (seen_hier hier.now) link.now.items instr.now.items) }
     ensures well_formed { IfOk result (λ net. IsHierarchy (seen_hier hier.now) → IsNet net) }

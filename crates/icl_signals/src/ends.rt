@@ -7,8 +7,11 @@ ghost use Rattle.icl_signals.specs.Wirings.{IsWiring, cells_of};
 ghost use Rattle.icl_signals.specs.Moves.{stands_for};
 ghost use Rattle.icl_signals.specs.Told.{IsTold};
 ghost use Rattle.net_graph.specs.declared.net.Sig.TheVariants.{Out};
-ghost use Rattle.icl_signals.specs.declared.wires.StandsFor.TheVariants.{ARegisterBit, AMuxOutput, AnInstrumentOutput};
-ghost use Rattle.icl_signals.specs.Connecting.{constant, register_bit, data_end, scan_end, data_from, scan_from, select_from, input_from, signal_from, or_absent, number_among, instrument_number, output_number};
+ghost use Rattle.icl_signals.specs.declared.wires.StandsFor.TheVariants.{ARegisterBit, AMuxOutput};
+ghost use Rattle.icl_signals.specs.declared.wires.StandsFor.TheVariants.{AnInstrumentOutput};
+ghost use Rattle.icl_signals.specs.Connecting.{constant, register_bit, data_end, scan_end, data_from};
+ghost use Rattle.icl_signals.specs.Connecting.{scan_from, select_from, input_from, signal_from, or_absent};
+ghost use Rattle.icl_signals.specs.Connecting.{number_among, instrument_number, output_number};
 
 use crate::ConnectFault;
 use crate::following::trace;
@@ -68,7 +71,8 @@ fn output_number(wiring: &Wiring, wire: Wire) -> u32
 fn output_bit(wiring: &Wiring, wire: Wire, inverted: bool) -> Sig
     requires wiring { IsWiring wiring.now }
     requires stands { stands_for (cells_of wiring.now) wiring.now.entry wire ≡ AnInstrumentOutput }
-    ensures { result ≡ Out (instrument_number (cells_of wiring.now) wire.cell) (output_number (cells_of wiring.now) wire.cell wire.part) wire.pos inverted }
+    ensures { result ≡ Out (instrument_number (cells_of wiring.now) wire.cell)
+        (output_number (cells_of wiring.now) wire.cell wire.part) wire.pos inverted }
 {
     Sig::Out {
         inst: instrument_number(wiring, wire),

@@ -40,7 +40,8 @@ fn with_cell<'a>(
     cell: &'a Cell,
     found: Vec<PartAt<'a>>,
 ) -> Result<Vec<PartAt<'a>>, OutOfMemory>
-    ensures { IfOk result (λ all. map seen_entry all.items ≡ map seen_entry found.entry.items ++ filter (λ e. test_of kind e.what.role) (entries_in (number, seen_cell cell.now))) }
+    ensures { IfOk result (λ all. map seen_entry all.items ≡ map seen_entry found.entry.items
+        ++ filter (λ e. test_of kind e.what.role) (entries_in (number, seen_cell cell.now))) }
 {
     let mut all = found;
     let mut part = 0;
@@ -63,7 +64,8 @@ pub(crate) fn entries_of<'a>(
     kind: Kind,
     hier: &'a Hier,
 ) -> Result<Vec<PartAt<'a>>, OutOfMemory>
-    ensures { IfOk result (λ all. map seen_entry all.items ≡ entries_that (test_of kind) (seen_hier hier.now)) }
+    ensures { IfOk result (λ all. map seen_entry all.items
+        ≡ entries_that (test_of kind) (seen_hier hier.now)) }
 {
     let mut all = Vec::new(alloc);
     let mut number = 0;
@@ -81,7 +83,8 @@ pub(crate) fn entries_at<'a>(
     number: u32,
     cell: &'a Cell,
 ) -> Result<Vec<PartAt<'a>>, OutOfMemory>
-    ensures { IfOk result (λ all. map (λ e. numbered (seen_entry e)) all.items ≡ parts_that (test_of kind) (seen_cell cell.now)) }
+    ensures { IfOk result (λ all. map (λ e. numbered (seen_entry e)) all.items
+        ≡ parts_that (test_of kind) (seen_cell cell.now)) }
 {
     let all = with_cell(kind, number, cell, Vec::new(alloc))?;
     Ok(all)
@@ -94,7 +97,8 @@ pub(crate) fn own_refs(
     part: u32,
     what: &Part,
 ) -> Result<Vec<Ref>, OutOfMemory>
-    ensures { IfOk result (λ refs. refs.items ≡ own_bits (record { cell = cell; part = part; what = seen_part what.now })) }
+    ensures { IfOk result (λ refs. refs.items
+        ≡ own_bits (record { cell = cell; part = part; what = seen_part what.now })) }
 {
     let width = width_of(what)?;
     let mut refs = Vec::new(alloc);

@@ -1,4 +1,5 @@
-// Where the traces of the wired ports' bits end: each trace is followed once, up to a bit whose end was found before.
+// Where the traces of the wired ports' bits end: each trace is followed once, up to a bit whose end was found
+// before.
 ghost use Rattle.std.specs.Prelude.{◌≡◌, ◌+◌, IfOk, IfSome};
 ghost use Rattle.icl_signals.specs.Wirings.{IsWiring, cells_of};
 ghost use Rattle.icl_signals.specs.Found.{IsFound, AreFound, turned_end};
@@ -24,8 +25,9 @@ fn after(moves: u64, inverted: bool, found: Found) -> Option<Found>
     })
 }
 
-/// Where the trace of a bit ends. The bit after 1, 2, 4, 8 moves and so on is marked in turn: a trace that comes back meets the
-/// mark after at most three times as many moves as there are bits on its way. Takes no memory.
+/// Where the trace of a bit ends. The bit after 1, 2, 4, 8 moves and so on is marked in turn: a trace that
+/// comes back meets the mark after at most three times as many moves as there are bits on its way. Takes no
+/// memory.
 fn find(wiring: &Wiring, ends: &[Option<Note>], start: Wire) -> Option<Found>
     requires wiring { IsWiring wiring.now }
     requires ends { AreFound (cells_of wiring.now) wiring.now.entry ends.now }
@@ -68,8 +70,8 @@ fn find(wiring: &Wiring, ends: &[Option<Note>], start: Wire) -> Option<Found>
     None
 }
 
-/// The ends with those of the bits on the way of a trace, up to one whose end is known. A bit that stands for no other one has no
-/// place in the table, and needs none.
+/// The ends with those of the bits on the way of a trace, up to one whose end is known. A bit that stands for
+/// no other one has no place in the table, and needs none.
 fn with_way(
     wiring: &Wiring,
     ends: Vec<Option<Note>>,
@@ -118,7 +120,8 @@ fn with_trace(wiring: &Wiring, ends: Vec<Option<Note>>, wire: Wire) -> Vec<Optio
     }
 }
 
-/// The ends with those of the traces of a part's bits, if it is a wired port: a bit of another part is an end.
+/// The ends with those of the traces of a part's bits, if it is a wired port: a bit of another part is an
+/// end.
 fn with_part(
     wiring: &Wiring,
     ends: Vec<Option<Note>>,

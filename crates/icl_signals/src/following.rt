@@ -4,7 +4,8 @@ ghost use Rattle.ij_bits.specs.BitLists.{flip_if};
 ghost use Rattle.icl_references.specs.Roles.{seen_body, seen_refs};
 ghost use Rattle.icl_signals.specs.Wirings.{IsWiring, cells_of};
 ghost use Rattle.icl_signals.specs.Told.{IsTold, IsToldNext, IsConstant, resume};
-ghost use Rattle.icl_signals.specs.Moves.{stands_for, role_move, one_ref, ref_in, is_instrument_cell, is_entry};
+ghost use Rattle.icl_signals.specs.Moves.{stands_for, role_move, one_ref, ref_in, is_instrument_cell};
+ghost use Rattle.icl_signals.specs.Moves.{is_entry};
 ghost use Rattle.icl_signals.specs.Traces.{follow, trace, from_ref, from_move};
 ghost use Rattle.std.specs.Option.{option_map};
 
@@ -139,7 +140,8 @@ fn next_of(inverted: bool, r: Ref) -> Next
 /// One move of a trace.
 pub(crate) fn one_move(wiring: &Wiring, inverted: bool, wire: Wire) -> Next
     requires { IsWiring wiring.now }
-    ensures value { (go : Bool → Wire → End) → from_move go inverted wire (stands_for (cells_of wiring.now) wiring.now.entry wire) ≡ resume go result }
+    ensures value { (go : Bool → Wire → End) → from_move go inverted wire
+        (stands_for (cells_of wiring.now) wiring.now.entry wire) ≡ resume go result }
     ensures told { IsToldNext (cells_of wiring.now) wiring.now.entry result }
 {
     match next_move(wiring, wire) {

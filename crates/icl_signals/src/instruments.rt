@@ -8,7 +8,8 @@ ghost use Rattle.icl_signals.specs.Wirings.{IsWiring, cells_of};
 ghost use Rattle.icl_signals.specs.Told.{seen_entry};
 ghost use Rattle.icl_signals.specs.Inside.{numbered};
 ghost use Rattle.icl_signals.specs.PlainNets.{seen_input, seen_output, seen_inst};
-ghost use Rattle.icl_signals.specs.Connecting.{input_from, input_of, output_of, instrument_of, instruments, parts_that};
+ghost use Rattle.icl_signals.specs.Connecting.{input_from, input_of, output_of, instrument_of, instruments};
+ghost use Rattle.icl_signals.specs.Connecting.{parts_that};
 
 use crate::ConnectFault;
 use crate::ends::input_from;
@@ -29,7 +30,8 @@ fn input_bits(
     refs: &[Ref],
 ) -> Result<List<Sig>, ConnectFault>
     requires { IsWiring wiring.now }
-    ensures { Gives (λ all. all.items) result (each (input_from (cells_of wiring.now) wiring.now.entry at) refs.now) }
+    ensures { Gives (λ all. all.items) result
+        (each (input_from (cells_of wiring.now) wiring.now.entry at) refs.now) }
 {
     let mut all = List::new(alloc);
     for r in refs {
@@ -42,7 +44,8 @@ fn input_bits(
 /// An input of the instrument that this cell is.
 fn input_of(alloc: Global, wiring: &Wiring, cell: u32, e: PartAt) -> Result<PortIn, ConnectFault>
     requires { IsWiring wiring.now }
-    ensures { Gives seen_input result (input_of (cells_of wiring.now) wiring.now.entry cell (numbered (seen_entry e.entry))) }
+    ensures { Gives seen_input result
+        (input_of (cells_of wiring.now) wiring.now.entry cell (numbered (seen_entry e.entry))) }
 {
     let refs = own_refs(alloc, cell, e.part, e.what)?;
     let bits = input_bits(alloc, wiring, e.what.at, refs.as_slice());
@@ -66,7 +69,8 @@ fn inputs(
     parts: &[PartAt],
 ) -> Result<List<PortIn>, ConnectFault>
     requires { IsWiring wiring.now }
-    ensures { Gives (λ all. map seen_input all.items) result (each (input_of (cells_of wiring.now) wiring.now.entry cell) (map (λ e. numbered (seen_entry e)) parts.now)) }
+    ensures { Gives (λ all. map seen_input all.items) result (each (input_of
+        (cells_of wiring.now) wiring.now.entry cell) (map (λ e. numbered (seen_entry e)) parts.now)) }
 {
     let mut all = List::new(alloc);
     for e in parts {
@@ -77,7 +81,8 @@ fn inputs(
 }
 
 fn outputs(alloc: Global, parts: &[PartAt]) -> Result<List<PortOut>, OutOfMemory>
-    ensures { IfOk result (λ all. map seen_output all.items ≡ map output_of (map (λ e. numbered (seen_entry e)) parts.now)) }
+    ensures { IfOk result (λ all. map seen_output all.items
+        ≡ map output_of (map (λ e. numbered (seen_entry e)) parts.now)) }
 {
     let mut all = List::new(alloc);
     for e in parts {
@@ -88,7 +93,8 @@ fn outputs(alloc: Global, parts: &[PartAt]) -> Result<List<PortOut>, OutOfMemory
 
 /// The outputs of the instrument that a cell is.
 fn own_outputs(alloc: Global, number: u32, cell: &Cell) -> Result<List<PortOut>, OutOfMemory>
-    ensures { IfOk result (λ all. map seen_output all.items ≡ map output_of (parts_that is_data_out (seen_cell cell.now))) }
+    ensures { IfOk result (λ all. map seen_output all.items
+        ≡ map output_of (parts_that is_data_out (seen_cell cell.now))) }
 {
     let parts = entries_at(alloc, Kind::Output, number, cell)?;
     let outs = outputs(alloc, parts.as_slice());
@@ -105,7 +111,8 @@ fn instrument_of(
     cell: &Cell,
 ) -> Result<Inst, ConnectFault>
     requires { IsWiring wiring.now }
-    ensures { Gives seen_inst result (instrument_of (cells_of wiring.now) wiring.now.entry (number, seen_cell cell.now)) }
+    ensures { Gives seen_inst result
+        (instrument_of (cells_of wiring.now) wiring.now.entry (number, seen_cell cell.now)) }
 {
     let parts = entries_at(alloc, Kind::Input, number, cell)?;
     let ins = inputs(alloc, wiring, number, parts.as_slice());
@@ -127,7 +134,9 @@ fn with_instrument(
     found: List<Inst>,
 ) -> Result<List<Inst>, ConnectFault>
     requires { IsWiring wiring.now }
-    ensures { Gives (λ all. map seen_inst all.items) result (after (map seen_inst found.items) (each (instrument_of (cells_of wiring.now) wiring.now.entry) (filter (λ c. is_instrument c.1) ((number, seen_cell cell.now) ∷ [])))) }
+    ensures { Gives (λ all. map seen_inst all.items) result
+        (after (map seen_inst found.items) (each (instrument_of (cells_of wiring.now) wiring.now.entry)
+        (filter (λ c. is_instrument c.1) ((number, seen_cell cell.now) ∷ [])))) }
 {
     let mut all = found;
     if is_instrument(cell) {
@@ -140,7 +149,8 @@ fn with_instrument(
 /// The instruments of the network.
 pub(crate) fn instruments(alloc: Global, wiring: &Wiring) -> Result<List<Inst>, ConnectFault>
     requires { IsWiring wiring.now }
-    ensures { Gives (λ all. map seen_inst all.items) result (each (instrument_of (cells_of wiring.now) wiring.now.entry) (instruments (cells_of wiring.now))) }
+    ensures { Gives (λ all. map seen_inst all.items) result
+        (each (instrument_of (cells_of wiring.now) wiring.now.entry) (instruments (cells_of wiring.now))) }
 {
     let mut all = List::new(alloc);
     let mut number = 0;

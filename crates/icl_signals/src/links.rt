@@ -5,7 +5,8 @@ ghost use Rattle.std.specs.Str.{bytes_eq};
 ghost use Rattle.ij_text.specs.Options.{same};
 ghost use Rattle.icl_references.specs.Roles.{part_at, seen_body, seen_part, seen_hier, seen_selection};
 ghost use Rattle.icl_signals.specs.Refusals.{Gives, NoLink, seen_fault};
-ghost use Rattle.icl_signals.specs.Connecting.{selections_in, link_at, passes, only, only_port, known, known_selection, place_of, ends};
+ghost use Rattle.icl_signals.specs.Connecting.{selections_in, link_at, passes, only, only_port, known};
+ghost use Rattle.icl_signals.specs.Connecting.{known_selection, place_of, ends};
 ghost use Rattle.icl_signals.specs.Links.{test_of_side, seen_ends, named_link};
 
 use crate::ConnectFault;
@@ -65,7 +66,8 @@ fn link_in<'a>(parts: &'a [Part], link: &Name) -> Option<&'a Part>
 
 /// The instruction of this name among those of a link, if there is one.
 fn instruction_in<'a>(instrs: &'a [(Name, u32, u32)], instr: &Name) -> Option<&'a (Name, u32, u32)>
-    ensures { option_map (λ s. seen_selection s.now) result ≡ find (λ s. bytes_eq instr.now.items s.name) (map seen_selection instrs.now) }
+    ensures { option_map (λ s. seen_selection s.now) result
+        ≡ find (λ s. bytes_eq instr.now.items s.name) (map seen_selection instrs.now) }
 {
     for known in instrs {
         if same_name(instr, &known.0) {
@@ -117,7 +119,8 @@ fn passes(hier: &Hier, side: Side, cell: u32, port: u32) -> bool
 
 /// The one port of this side among some parts of a cell, however often it stands there.
 fn only_among(hier: &Hier, side: Side, cell: u32, ports: &[u32]) -> Option<u32>
-    ensures { result ≡ only (filter (λ port. passes (test_of_side side) (part_at (seen_hier hier.now) cell port)) ports.now) }
+    ensures { result ≡ only
+        (filter (λ port. passes (test_of_side side) (part_at (seen_hier hier.now) cell port)) ports.now) }
 {
     let mut found = None;
     for port in ports {
@@ -164,7 +167,8 @@ fn known_selection<'a>(
     link: &Name,
     instr: &Name,
 ) -> Result<&'a (Name, u32, u32), ConnectFault>
-    ensures { Gives (λ s. seen_selection s.now) result (known_selection link.now.items instr.now.items (find (λ s. bytes_eq instr.now.items s.name) (link_at (seen_hier hier.now) link.now.items))) }
+    ensures { Gives (λ s. seen_selection s.now) result (known_selection link.now.items instr.now.items
+        (find (λ s. bytes_eq instr.now.items s.name) (link_at (seen_hier hier.now) link.now.items))) }
 {
     match instruction_in(instructions(hier, link), instr) {
         Some(s) => Ok(s),
@@ -181,7 +185,8 @@ fn known_port(
     link: &Name,
     instr: &Name,
 ) -> Result<u32, ConnectFault>
-    ensures { Gives same result (known link.now.items instr.now.items (only_port (test_of_side side) (seen_hier hier.now) (seen_selection s.now))) }
+    ensures { Gives same result (known link.now.items instr.now.items
+        (only_port (test_of_side side) (seen_hier hier.now) (seen_selection s.now))) }
 {
     match only_port(hier, side, s) {
         Some(port) => Ok(port),

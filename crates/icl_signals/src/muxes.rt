@@ -27,7 +27,8 @@ fn select(
     refs: &[Ref],
 ) -> Result<List<BitId>, ConnectFault>
     requires { IsWiring wiring.now }
-    ensures { Gives (λ all. all.items) result (each (select_from (cells_of wiring.now) wiring.now.entry at) refs.now) }
+    ensures { Gives (λ all. all.items) result
+        (each (select_from (cells_of wiring.now) wiring.now.entry at) refs.now) }
 {
     let mut all = List::new(alloc);
     for r in refs {
@@ -44,7 +45,8 @@ fn row_from(
     row: &(List<Tern>, Ref),
 ) -> Result<Row, ConnectFault>
     requires { IsWiring wiring.now }
-    ensures { Gives seen_row result (row_from (cells_of wiring.now) wiring.now.entry at (seen_choice row.now)) }
+    ensures { Gives seen_row result
+        (row_from (cells_of wiring.now) wiring.now.entry at (seen_choice row.now)) }
 {
     let from = scan_from(wiring, at, row.1)?;
     let values = values_copy(alloc, row.0.as_slice())?;
@@ -58,7 +60,8 @@ fn rows(
     rows: &[(List<Tern>, Ref)],
 ) -> Result<List<Row>, ConnectFault>
     requires { IsWiring wiring.now }
-    ensures { Gives (λ all. map seen_row all.items) result (each (row_from (cells_of wiring.now) wiring.now.entry at) (map seen_choice rows.now)) }
+    ensures { Gives (λ all. map seen_row all.items) result
+        (each (row_from (cells_of wiring.now) wiring.now.entry at) (map seen_choice rows.now)) }
 {
     let mut all = List::new(alloc);
     for row in rows {
@@ -103,7 +106,8 @@ pub(crate) fn muxes(
     parts: &[PartAt],
 ) -> Result<List<Mux>, ConnectFault>
     requires { IsWiring wiring.now }
-    ensures { Gives (λ all. map seen_mux all.items) result (each (mux_of (cells_of wiring.now) wiring.now.entry) (map seen_entry parts.now)) }
+    ensures { Gives (λ all. map seen_mux all.items) result
+        (each (mux_of (cells_of wiring.now) wiring.now.entry) (map seen_entry parts.now)) }
 {
     let mut all = List::new(alloc);
     for e in parts {

@@ -23,7 +23,8 @@ fn path_copy(alloc: Global, path: &[Name]) -> Result<List<Name>, OutOfMemory>
 
 /// The path of a node, empty for one that isn't there.
 fn path_at(nodes: &[Node], node: u32) -> &[Name]
-    ensures { map (λ name. name.items) result.now ≡ get_or (map (λ n. n.path) (map seen_node nodes.now)) node [] }
+    ensures { map (λ name. name.items) result.now
+        ≡ get_or (map (λ n. n.path) (map seen_node nodes.now)) node [] }
 {
     match nodes.get(node as usize) {
         Some(node) => node.path.as_slice(),
@@ -33,7 +34,8 @@ fn path_at(nodes: &[Node], node: u32) -> &[Name]
 
 /// The path of a cell, after those of the cells before it.
 fn path_of(alloc: Global, nodes: &[Node], cell: &Cell) -> Result<List<Name>, OutOfMemory>
-    ensures { IfOk result (λ path. map (λ name. name.items) path.items ≡ path_with (map (λ node. node.path) (map seen_node nodes.now)) (seen_cell cell.now) cell.now.parent) }
+    ensures { IfOk result (λ path. map (λ name. name.items) path.items ≡ path_with
+        (map (λ node. node.path) (map seen_node nodes.now)) (seen_cell cell.now) cell.now.parent) }
 {
     let Some(parent) = cell.parent else {
         return Ok(List::new(alloc));

@@ -1,4 +1,5 @@
-// The numbers of registers, multiplexers, things, instruments and their outputs: for each, how many of its kind stand before.
+// The numbers of registers, multiplexers, things, instruments and their outputs: for each, how many of its
+// kind stand before.
 ghost use Rattle.std.specs.Prelude.{◌≡◌, ◌+◌, map, get_or, IfOk};
 ghost use Rattle.icl_references.specs.Roles.{seen_part, seen_cell};
 ghost use Rattle.icl_signals.specs.Kinds.{is_of, one_if, before, with_all, numbers_from, number_at};
@@ -36,7 +37,8 @@ fn counts_before(
     count: u32,
     parts: &[Part],
 ) -> Result<Before, OutOfMemory>
-    ensures numbers { IfOk result (λ f. f.numbers.items ≡ before (is_of kind) count (map seen_part parts.now)) }
+    ensures numbers { IfOk result
+        (λ f. f.numbers.items ≡ before (is_of kind) count (map seen_part parts.now)) }
     ensures count { IfOk result (λ f. f.count ≡ with_all (is_of kind) count (map seen_part parts.now)) }
 {
     let mut numbers = Vec::new(alloc);
@@ -57,7 +59,8 @@ pub(crate) fn numbers_of(
     kind: Kind,
     cells: &[Cell],
 ) -> Result<Vec<Vec<u32>>, OutOfMemory>
-    ensures { IfOk result (λ table. map (λ row. row.items) table.items ≡ numbers_from kind 0 (map seen_cell cells.now)) }
+    ensures { IfOk result (λ table. map (λ row. row.items) table.items
+        ≡ numbers_from kind 0 (map seen_cell cells.now)) }
 {
     let mut table = Vec::new(alloc);
     let mut count = 0;
@@ -71,7 +74,8 @@ pub(crate) fn numbers_of(
 
 /// For each part of each cell how many outputs stand before it in that cell.
 pub(crate) fn outputs_of(alloc: Global, cells: &[Cell]) -> Result<Vec<Vec<u32>>, OutOfMemory>
-    ensures { IfOk result (λ table. map (λ row. row.items) table.items ≡ map (λ c. before (is_of Kind.Output) 0 c.parts) (map seen_cell cells.now)) }
+    ensures { IfOk result (λ table. map (λ row. row.items) table.items
+        ≡ map (λ c. before (is_of Kind.Output) 0 c.parts) (map seen_cell cells.now)) }
 {
     let mut table = Vec::new(alloc);
     for cell in cells {

@@ -62,7 +62,8 @@ pub(crate) fn width_of(part: &Part) -> Result<u32, OutOfMemory>
     Ok(wide as u32)
 }
 
-/// What the network numbers: registers, multiplexers, what procedures may name, and outputs and inputs of instruments.
+/// What the network numbers: registers, multiplexers, what procedures may name, and outputs and inputs of
+/// instruments.
 #[derive(Clone, Copy, Drop)]
 pub enum Kind {
     /// A scan register.
@@ -93,7 +94,8 @@ pub(crate) fn is_of(kind: Kind, body: &Body) -> bool
     }
 }
 
-/// Whether a part is a port that is bound, or has a source: a bit of each other part stands for no other one. Takes no memory.
+/// Whether a part is a port that is bound, or has a source: a bit of each other part stands for no other one.
+/// Takes no memory.
 pub(crate) fn is_wired(body: &Body) -> bool
     ensures { result ≡ is_wired (seen_body body.now) }
 {
@@ -146,7 +148,8 @@ fn has_more(parts: &[Part]) -> bool
     false
 }
 
-/// Whether a cell is an instrument: data ports alone join it to the network, and it isn't the top. Takes no memory.
+/// Whether a cell is an instrument: data ports alone join it to the network, and it isn't the top. Takes no
+/// memory.
 pub(crate) fn is_instrument(cell: &Cell) -> bool
     ensures { result ≡ is_instrument (seen_cell cell.now) }
 {

@@ -1,7 +1,9 @@
-// Places in a table for the bits of wired ports. An entry of the table says which bit it is of, so no answer depends on these numbers.
+// Places in a table for the bits of wired ports. An entry of the table says which bit it is of, so no answer
+// depends on these numbers.
 ghost use Rattle.std.specs.Prelude.{◌≡◌, ◌+◌, map, IfOk};
 ghost use Rattle.icl_references.specs.Roles.{seen_part, seen_cell};
-ghost use Rattle.icl_signals.specs.Kinds.{number_at, wired_bits, bits_before, with_bits, places_from, all_bits};
+ghost use Rattle.icl_signals.specs.Kinds.{number_at, wired_bits, bits_before, with_bits, places_from};
+ghost use Rattle.icl_signals.specs.Kinds.{all_bits};
 
 use crate::numbers::number_at;
 use crate::parts::{is_wired, width_of};
@@ -67,7 +69,8 @@ fn bits_before(alloc: Global, count: u32, parts: &[Part]) -> Result<BitsBefore, 
 
 /// Places for the bits of all wired ports.
 pub(crate) fn places_of(alloc: Global, cells: &[Cell]) -> Result<Places, OutOfMemory>
-    ensures numbers { IfOk result (λ p. map (λ row. row.items) p.numbers.items ≡ places_from 0 (map seen_cell cells.now)) }
+    ensures numbers { IfOk result
+        (λ p. map (λ row. row.items) p.numbers.items ≡ places_from 0 (map seen_cell cells.now)) }
     ensures count { IfOk result (λ p. p.count ≡ all_bits 0 (map seen_cell cells.now)) }
 {
     let mut numbers = Vec::new(alloc);
@@ -82,7 +85,8 @@ pub(crate) fn places_of(alloc: Global, cells: &[Cell]) -> Result<Places, OutOfMe
 
 /// The place of a bit of a wired port. Takes no memory.
 pub(crate) fn place_of(places: &Places, wire: Wire) -> usize
-    ensures { result ≡ number_at (map (λ row. row.items) places.now.numbers.items) wire.cell wire.part + wire.pos }
+    ensures { result
+        ≡ number_at (map (λ row. row.items) places.now.numbers.items) wire.cell wire.part + wire.pos }
 {
     let start = number_at(places.numbers.as_slice(), wire.cell, wire.part);
     start as usize + wire.pos as usize

@@ -54,7 +54,8 @@ pub(crate) fn signals(
     refs: &[Ref],
 ) -> Result<List<Sig>, ConnectFault>
     requires { IsWiring wiring.now }
-    ensures { Gives (λ all. all.items) result (each (data_from (cells_of wiring.now) wiring.now.entry at) refs.now) }
+    ensures { Gives (λ all. all.items) result
+        (each (data_from (cells_of wiring.now) wiring.now.entry at) refs.now) }
 {
     let mut all = List::new(alloc);
     for r in refs {
@@ -72,7 +73,8 @@ fn captures(
     capture: &Option<List<Ref>>,
 ) -> Result<List<Sig>, ConnectFault>
     requires { IsWiring wiring.now }
-    ensures { Gives (λ all. all.items) result (captures (cells_of wiring.now) wiring.now.entry at width (option_map seen_refs capture.now)) }
+    ensures { Gives (λ all. all.items) result
+        (captures (cells_of wiring.now) wiring.now.entry at width (option_map seen_refs capture.now)) }
 {
     match capture {
         Some(refs) => signals(alloc, wiring, at, refs.as_slice()),
@@ -95,7 +97,8 @@ fn thing_number(wiring: &Wiring, e: PartAt) -> u32
 pub(crate) fn register_of(alloc: Global, wiring: &Wiring, e: PartAt) -> Result<Reg, ConnectFault>
     requires wiring { IsWiring wiring.now }
     requires placed { IsPlaced (cells_of wiring.now) e }
-    ensures { Gives seen_reg result (register_of (cells_of wiring.now) wiring.now.entry (seen_entry e.entry)) }
+    ensures { Gives seen_reg result
+        (register_of (cells_of wiring.now) wiring.now.entry (seen_entry e.entry)) }
 {
     let part = e.what;
     match &part.body {
@@ -128,7 +131,8 @@ pub(crate) fn registers(
 ) -> Result<List<Reg>, ConnectFault>
     requires wiring { IsWiring wiring.now }
     requires placed { ArePlaced (cells_of wiring.now) parts.now }
-    ensures { Gives (λ all. map seen_reg all.items) result (each (register_of (cells_of wiring.now) wiring.now.entry) (map seen_entry parts.now)) }
+    ensures { Gives (λ all. map seen_reg all.items) result
+        (each (register_of (cells_of wiring.now) wiring.now.entry) (map seen_entry parts.now)) }
 {
     let mut all = List::new(alloc);
     for e in parts {

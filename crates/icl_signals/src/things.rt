@@ -71,7 +71,8 @@ fn named_spots(alloc: Global, wiring: &Wiring, refs: &[Ref]) -> Result<List<Spot
 /// The bits of a part, position 0 first.
 fn own_spots(alloc: Global, wiring: &Wiring, e: PartAt) -> Result<List<Spot>, OutOfMemory>
     requires { IsWiring wiring.now }
-    ensures { IfOk result (λ all. all.items ≡ map (spot_of (cells_of wiring.now) wiring.now.entry) (own_bits (seen_entry e.entry))) }
+    ensures { IfOk result (λ all. all.items
+        ≡ map (spot_of (cells_of wiring.now) wiring.now.entry) (own_bits (seen_entry e.entry))) }
 {
     let refs = own_refs(alloc, e.cell, e.part, e.what)?;
     named_spots(alloc, wiring, refs.as_slice())
@@ -81,7 +82,8 @@ fn own_spots(alloc: Global, wiring: &Wiring, e: PartAt) -> Result<List<Spot>, Ou
 #[tactic(auto, unfolding(crate::specs::Connecting::thing_of))]
 fn thing_of(alloc: Global, wiring: &Wiring, e: PartAt) -> Result<Thing, OutOfMemory>
     requires { IsWiring wiring.now }
-    ensures { IfOk result (λ t. seen_thing t ≡ thing_of (cells_of wiring.now) wiring.now.entry (seen_entry e.entry)) }
+    ensures { IfOk result (λ t. seen_thing t
+        ≡ thing_of (cells_of wiring.now) wiring.now.entry (seen_entry e.entry)) }
 {
     let part = e.what;
     let bits = match &part.body {
@@ -108,7 +110,8 @@ pub(crate) fn things(
     parts: &[PartAt],
 ) -> Result<List<Thing>, OutOfMemory>
     requires { IsWiring wiring.now }
-    ensures { IfOk result (λ all. map seen_thing all.items ≡ map (thing_of (cells_of wiring.now) wiring.now.entry) (map seen_entry parts.now)) }
+    ensures { IfOk result (λ all. map seen_thing all.items
+        ≡ map (thing_of (cells_of wiring.now) wiring.now.entry) (map seen_entry parts.now)) }
 {
     let mut all = List::new(alloc);
     for e in parts {

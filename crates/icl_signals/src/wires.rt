@@ -13,8 +13,8 @@ pub struct Wire {
     pub pos: u32,
 }
 
-/// What a signal bit stands for (IEEE 1687-2014, ICL: the connections of ports): another bit, or nothing further, since it is
-/// where a trace ends.
+/// What a signal bit stands for (IEEE 1687-2014, ICL: the connections of ports): another bit, or nothing
+/// further, since it is where a trace ends.
 #[derive(Clone, Copy, Drop)]
 pub enum StandsFor {
     /// Another signal bit, or a constant.

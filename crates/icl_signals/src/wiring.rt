@@ -88,10 +88,14 @@ struct PartNumbers {
 
 /// The numbers of the parts of these cells.
 fn part_numbers(alloc: Global, cells: &[Cell]) -> Result<PartNumbers, OutOfMemory>
-    ensures registers { IfOk result (λ n. map (λ row. row.items) n.registers.items ≡ numbers_from Kind.Register 0 (map seen_cell cells.now)) }
-    ensures muxes { IfOk result (λ n. map (λ row. row.items) n.muxes.items ≡ numbers_from Kind.Mux 0 (map seen_cell cells.now)) }
-    ensures things { IfOk result (λ n. map (λ row. row.items) n.things.items ≡ numbers_from Kind.Thing 0 (map seen_cell cells.now)) }
-    ensures outputs { IfOk result (λ n. map (λ row. row.items) n.outputs.items ≡ map (λ c. before (is_of Kind.Output) 0 c.parts) (map seen_cell cells.now)) }
+    ensures registers { IfOk result (λ n. map (λ row. row.items) n.registers.items
+        ≡ numbers_from Kind.Register 0 (map seen_cell cells.now)) }
+    ensures muxes { IfOk result
+        (λ n. map (λ row. row.items) n.muxes.items ≡ numbers_from Kind.Mux 0 (map seen_cell cells.now)) }
+    ensures things { IfOk result
+        (λ n. map (λ row. row.items) n.things.items ≡ numbers_from Kind.Thing 0 (map seen_cell cells.now)) }
+    ensures outputs { IfOk result (λ n. map (λ row. row.items) n.outputs.items
+        ≡ map (λ c. before (is_of Kind.Output) 0 c.parts) (map seen_cell cells.now)) }
 {
     let registers = numbers_of(alloc, Kind::Register, cells)?;
     let (registers, muxes) = beside(registers, numbers_of(alloc, Kind::Mux, cells))?;
@@ -107,7 +111,8 @@ fn part_numbers(alloc: Global, cells: &[Cell]) -> Result<PartNumbers, OutOfMemor
     })
 }
 
-/// What following a signal of a hierarchy looks at, where the network begins at `entry`. No trace is followed yet.
+/// What following a signal of a hierarchy looks at, where the network begins at `entry`. No trace is followed
+/// yet.
 pub(crate) fn wiring_of<'a>(
     alloc: Global,
     hier: &'a Hier,

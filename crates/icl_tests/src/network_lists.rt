@@ -26,8 +26,8 @@ const FLAT: (&str, &str) = (
     "ScanRegister R[3:0] { ScanInSource SI; CaptureSource R; ResetValue 4'b0; }",
 );
 
-/// A segment after an insertion bit, within another one; the select bits of both in one register, and in one each; the
-/// outer one open at reset. Registers without reset value, or with one for some bits.
+/// A segment after an insertion bit, within another one; the select bits of both in one register, and in one
+/// each; the outer one open at reset. Registers without reset value, or with one for some bits.
 const SHARED: (&str, &str) = (
     "S[0]",
     "ScanMux m0 SelectedBy S[1] { 1'b0 : SI; 1'b1 : A; } ScanMux m1 SelectedBy S[0] { 1'b0 : SI; 1'b1 : R[0]; } ScanRegister R[2:0] { ScanInSource SI; CaptureSource R; } ScanRegister A { ScanInSource m1; CaptureSource A; } ScanRegister S[1:0] { ScanInSource m0; CaptureSource S; ResetValue 2'b00; }",

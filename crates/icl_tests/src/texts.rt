@@ -17,8 +17,8 @@ pub(crate) fn read(alloc: Global, text: &str) -> Option<Design> {
     parse(alloc, text, tokens).ok()
 }
 
-/// A text that is written in pieces and then compared. A piece that finds no memory is left out, so that the text isn't the one that
-/// is wanted.
+/// A text that is written in pieces and then compared. A piece that finds no memory is left out, so that the
+/// text isn't the one that is wanted.
 #[derive(Drop)]
 pub(crate) struct Shown {
     pub sink: SureSink,

@@ -143,7 +143,8 @@ fn is_thing(thing: &Thing) -> bool {
         && thing.words.len() == 1
 }
 
-/// Whether there is one of each: registers, multiplexers, instruments, nodes and named things; and it is as it was made.
+/// Whether there is one of each: registers, multiplexers, instruments, nodes and named things; and it is as
+/// it was made.
 fn parts_are_there(net: &Net) -> [bool; 5] {
     [
         matches!(net.regs.as_slice(), [reg] if is_register(reg)),

@@ -29,4 +29,5 @@ map_in f (y ∷ ys) x (suc k, l, e) =
 pub all_contained : {A : Type 0} (P : A → Type 0) (xs : List A) → ((x : A) → Contains xs x → P x) → All P xs
 all_contained P [] h k d l = absurd (omega (arith, l))
 all_contained P (y ∷ ys) h zero d l = h y (0, omega arith, refl)
-all_contained P (y ∷ ys) h (suc k) d l = all_contained P ys (λ x (i, j, q). h x (suc i, omega (arith, j), q)) k d (omega (arith, l))
+all_contained P (y ∷ ys) h (suc k) d l =
+    all_contained P ys (λ x (i, j, q). h x (suc i, omega (arith, j), q)) k d (omega (arith, l))

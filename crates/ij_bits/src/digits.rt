@@ -34,7 +34,8 @@ pub fn bit_of_number(number: u64, place: u32) -> bool
 /// Writes the 16 digits of a number so that the lowest of them stands before `end`, as far as there is room.
 pub(crate) fn put_digits(value: u64, to: &mut [u8], end: usize)
     requires { end ≤ length to.old }
-    ensures at { (i : ℕ) → i < 16 → i < end → slice_index to.new (end - 1 - i) ≡ hex_code (value / 2 ^ (4 * i) % 16) }
+    ensures at { (i : ℕ) → i < 16 → i < end
+        → slice_index to.new (end - 1 - i) ≡ hex_code (value / 2 ^ (4 * i) % 16) }
     ensures following { (k : ℕ) → end ≤ k → slice_index to.new k ≡ slice_index to.old k }
 {
     for i in 0..end.min(16) {

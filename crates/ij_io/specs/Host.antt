@@ -1,4 +1,5 @@
--- What clauses see of a stream that is written to, and of real files: counts of faults, and the stream itself.
+-- What clauses see of a stream that is written to, and of real files: counts of faults, and the stream
+-- itself.
 use Rattle.std.specs.Prelude.{ℕ, List}
 
 pub record Stream (W : Type 0) : Type 0 where

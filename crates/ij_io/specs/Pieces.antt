@@ -20,4 +20,5 @@ pub record HoldsFront (files : Option Files) (name : List ℕ) (text : Option (L
 
 -- the file is as before, or holds some first bytes
 abbrev pub HoldsPart : Option Files → Option Files → List ℕ → List ℕ → Type 0
-HoldsPart old new name bytes = (file_at new name ≡ file_at old name) ⊎ ((count : ℕ) × (file_at new name ≡ option_map (λ _. Some (take count bytes)) old))
+HoldsPart old new name bytes = (file_at new name ≡ file_at old name)
+    ⊎ ((count : ℕ) × (file_at new name ≡ option_map (λ _. Some (take count bytes)) old))

@@ -1,5 +1,6 @@
 -- Written words: bytes, decimal numbers and bits in hexadecimal digits.
-use Rattle.std.specs.Prelude.{ℕ, zero, suc, ◌+◌, ◌/◌, ◌==◌, Bool, true, false, List, [], ◌∷◌, ◌++◌, length, drop, decimal}
+use Rattle.std.specs.Prelude.{ℕ, zero, suc, ◌+◌, ◌/◌, ◌==◌, Bool, true, false, List, [], ◌∷◌, ◌++◌, length}
+use Rattle.std.specs.Prelude.{drop, decimal}
 use Rattle.std.specs.List.{flat_map}
 use Rattle.ij_bits.specs.Hex.{hex_digit}
 use Rattle.ij_io.specs.declared.words.Word.{Word}

@@ -5,7 +5,8 @@ ghost use Rattle.ij_io.specs.Causes.{HasCause};
 
 use crate::{Sink, StoreFault};
 
-/// Writes the decimal digits of a number, the highest first, with no leading zero (0 is `0`). It takes no memory.
+/// Writes the decimal digits of a number, the highest first, with no leading zero (0 is `0`). It takes no
+/// memory.
 ///
 /// # Errors
 ///

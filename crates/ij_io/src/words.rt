@@ -33,11 +33,13 @@ fn put_word<K: Sink>(k: &mut K, word: &Word<'_>) -> Result<(), StoreFault>
     }
 }
 
-/// Writes the words one after the other, first to last, with nothing between them. It takes no memory of its own.
+/// Writes the words one after the other, first to last, with nothing between them. It takes no memory of its
+/// own.
 ///
 /// # Errors
 ///
-/// The sink's, at the first write that it refuses. Then some first bytes of the text of all the words were added.
+/// The sink's, at the first write that it refuses. Then some first bytes of the text of all the words were
+/// added.
 #[tactic(auto, unfolding(crate::specs::Words::words_text))]
 pub fn put_words<K: Sink>(k: &mut K, words: &[Word<'_>]) -> Result<(), StoreFault>
     ensures whole { OnOk result (Adds (K.taken k.old) (K.taken k.new) (words_text words.now)) }

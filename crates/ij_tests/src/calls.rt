@@ -1,4 +1,5 @@
-// Calls of files and streams. They have no clauses: a test looks at what comes, and needs none of those that stand at each call.
+// Calls of files and streams. They have no clauses: a test looks at what comes, and needs none of those that
+// stand at each call.
 use ij_io::{LoadFault, Shelf, Sink, StoreFault, Word, put_words};
 use std::alloc::Global;
 

@@ -1,5 +1,5 @@
-// Texts that are written in pieces and then compared. A call that finds no memory leaves its piece out, so that the text isn't the
-// one that is wanted.
+// Texts that are written in pieces and then compared. A call that finds no memory leaves its piece out, so
+// that the text isn't the one that is wanted.
 
 use ij_io::{SureSink, Word, put_words};
 use std::process::Abort;

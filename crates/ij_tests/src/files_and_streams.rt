@@ -1,5 +1,5 @@
-// Files and streams, in memory and of the host: that each call succeeds where there is memory, and that slow streams are
-// written and read whole. Expected bytes are written out by hand.
+// Files and streams, in memory and of the host: that each call succeeds where there is memory, and that slow
+// streams are written and read whole. Expected bytes are written out by hand.
 
 use crate::calls::{append, begin, flush, load, write, write_words};
 use ij_io::{
@@ -178,8 +178,8 @@ impl Write for Trickle {
     }
 }
 
-/// What a stream that is full after eight bytes answers: to a write of five bytes that it takes, to a flush, to a last write, and to
-/// a flush.
+/// What a stream that is full after eight bytes answers: to a write of five bytes that it takes, to a flush,
+/// to a last write, and to a flush.
 fn answers(stream: &mut Trickle, last: &[u8]) -> [Result<(), StoreFault>; 4] {
     let mut sink = HostSink::new(stream);
     [
@@ -297,7 +297,8 @@ fn is_flushed(alloc: Global, text: &[u8], wanted: Result<(), StoreFault>) -> boo
     found == Some([Ok(()), wanted]) && stream.taken.as_slice() == b"abcdefgh".as_slice()
 }
 
-/// What a stream that buffers keeps back is handed on by `flush` alone, and a stream that is full then fails there.
+/// What a stream that buffers keeps back is handed on by `flush` alone, and a stream that is full then fails
+/// there.
 #[test]
 fn a_buffer_is_handed_on_by_flush(rt: HostRuntime) {
     assert!(rt; is_flushed(rt.alloc(), b"abcdefgh", Ok(())));

@@ -43,7 +43,8 @@ enum Act<'a> {
 use Act::{First, Holds, NotLoaded, Refused, Removed, RenamedTo, Second, Written};
 use Call::{Append, Begin, Finish};
 
-/// The front of all names of a test: in the host's folder for files of a short life, and no other process has it.
+/// The front of all names of a test: in the host's folder for files of a short life, and no other process has
+/// it.
 fn own_stem(rt: &HostRuntime) -> Option<String> {
     let folder = env::temp_dir(rt).ok()?;
     let path = folder.as_path().display();
@@ -122,7 +123,8 @@ fn is_step_met<S: Shelf>(
     }
 }
 
-/// How many steps came as they say before the first that didn't. All are done, so that those that remove the files are, too.
+/// How many steps came as they say before the first that didn't. All are done, so that those that remove the
+/// files are, too.
 fn count_met<S: Shelf>(
     rt: &HostRuntime,
     first: &mut S,
@@ -226,7 +228,8 @@ fn two_shelves_that_write_one_text_leave_it_once(rt: HostRuntime) {
     assert_eq!(rt; steps_met(&rt, &SHARED), SHARED.len());
 }
 
-/// Two shelves that write texts of different length to one name: each writes at its own places, and the later byte stands.
+/// Two shelves that write texts of different length to one name: each writes at its own places, and the later
+/// byte stands.
 const OWN_PLACES: [(&str, Act<'static>); 9] = [
     ("texts", First(Begin)),
     ("texts", Second(Begin)),
@@ -271,8 +274,8 @@ fn a_piece_goes_to_the_file_of_its_name(rt: HostRuntime) {
     assert_eq!(rt; found, [9; 3]);
 }
 
-/// A file that is removed after it was begun gets the pieces, and none comes in its place. Once it is finished, its name is free:
-/// a piece makes the file anew.
+/// A file that is removed after it was begun gets the pieces, and none comes in its place. Once it is
+/// finished, its name is free: a piece makes the file anew.
 const FINISHED: [(&str, Act<'static>); 10] = [
     ("ended", First(Begin)),
     ("ended", First(Append(b"a"))),
@@ -309,7 +312,8 @@ fn a_file_is_let_go_of_at_the_next_begin(rt: HostRuntime) {
 
 // ---- a disk that loses what it took
 
-// What a file answers once it is to keep what was written: a disk that can, one that is full by then, and a pipe.
+// What a file answers once it is to keep what was written: a disk that can, one that is full by then, and a
+// pipe.
 #[derive(Clone, Copy)]
 enum Keeping {
     Kept,
@@ -424,7 +428,8 @@ impl Files for Disk {
     }
 }
 
-/// What is answered where a byte is written to `a`: to begin and to append; to finish another name, `a`, and `a` once more.
+/// What is answered where a byte is written to `a`: to begin and to append; to finish another name, `a`, and
+/// `a` once more.
 fn answers(alloc: Global, keeping: Keeping) -> [Result<(), StoreFault>; 5] {
     let mut shelf = HostShelf::new(Disk { keeping }, alloc);
     [
@@ -451,7 +456,8 @@ fn check_end(
     );
 }
 
-/// A disk that refuses only once it is to keep what it took is a fault of the file, at its end. A pipe has nothing to keep.
+/// A disk that refuses only once it is to keep what it took is a fault of the file, at its end. A pipe has
+/// nothing to keep.
 #[test]
 fn a_late_fault_is_met_at_the_end(rt: HostRuntime) {
     check_end(&rt, rt.alloc(), "a disk that can", Keeping::Kept, Ok(()));

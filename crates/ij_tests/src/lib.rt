@@ -1,6 +1,6 @@
-//! Tests of what all else stands on, on texts that stand in tables: lists of bits, names and numbers; files and streams, in
-//! memory and of the host; the readers of procedures and SVF, and what writes SVF; the TAP controller and players, clock
-//! by clock; the lines of reports; made designs.
+//! Tests of what all else stands on, on texts that stand in tables: lists of bits, names and numbers; files
+//! and streams, in memory and of the host; the readers of procedures and SVF, and what writes SVF; the TAP
+//! controller and players, clock by clock; the lines of reports; made designs.
 #![tactic(auto)]
 
 #[cfg(test)]

@@ -193,7 +193,8 @@ fn checksums(alloc: Global, seed: u64, size: u64) -> Option<[u64; 3]> {
     }
 }
 
-/// Seed, size, and the checksums of ICL, PDL and tables, by a script that was written after the description of made designs alone.
+/// Seed, size, and the checksums of ICL, PDL and tables, by a script that was written after the description
+/// of made designs alone.
 const CHECKSUMS: [(u64, u64, [u64; 3]); 9] = [
     (
         0,

@@ -8,7 +8,8 @@ use std::test::Fail;
 use svf_writer::{Command, Commands, Part, Scan};
 use tap_machine::{Piece, Pins, Player, Stable, Tap, TapState};
 
-/// The levels of TMS from Test-Logic-Reset on, and the state to which each leads: through a data and an instruction scan, and back.
+/// The levels of TMS from Test-Logic-Reset on, and the state to which each leads: through a data and an
+/// instruction scan, and back.
 const WALK: [(bool, TapState); 20] = [
     (false, TapState::RunTestIdle),
     (true, TapState::SelectDrScan),
@@ -69,7 +70,8 @@ fn shifts(scan: u32, bit: u32, tms: bool, tdi: bool, expect: Option<bool>) -> Pi
     }
 }
 
-/// Two scans of two bits, the second without TDI and MASK, one of one bit, a run of three cycles, and a reset.
+/// Two scans of two bits, the second without TDI and MASK, one of one bit, a run of three cycles, and a
+/// reset.
 fn commands_to_play(alloc: Global) -> Result<Commands, OutOfMemory>
     ensures { IfOk result (λ commands. scans_in commands ≡ 3) }
 {
@@ -102,8 +104,8 @@ fn commands_to_play(alloc: Global) -> Result<Commands, OutOfMemory>
     Ok(commands)
 }
 
-// The clocks of a play from Test-Logic-Reset, after seven scans: the levels of TMS where no bit is shifted, the clocks that shift a
-// bit, and the state in which it ends.
+// The clocks of a play from Test-Logic-Reset, after seven scans: the levels of TMS where no bit is shifted,
+// the clocks that shift a bit, and the state in which it ends.
 #[derive(Drop)]
 struct Clocks {
     quiet: Vec<bool>,
@@ -132,7 +134,8 @@ fn played(alloc: Global, commands: &Commands) -> Clocks
     }
 }
 
-/// To Run-Test/Idle; three scans, each led in by three clocks and out by two; three clocks to run; five to reset.
+/// To Run-Test/Idle; three scans, each led in by three clocks and out by two; three clocks to run; five to
+/// reset.
 const QUIET: [bool; 24] = [
     LOW, HIGH, LOW, LOW, HIGH, LOW, HIGH, LOW, LOW, HIGH, LOW, HIGH, LOW, LOW, HIGH, LOW, LOW, LOW,
     LOW, HIGH, HIGH, HIGH, HIGH, HIGH,
@@ -214,8 +217,8 @@ fn are_next(player: &mut Player, piece: &Piece) -> bool
     true
 }
 
-/// The position and the number of the clocks of each piece that shifts, up to the first one that isn't what a play has clock by
-/// clock.
+/// The position and the number of the clocks of each piece that shifts, up to the first one that isn't what a
+/// play has clock by clock.
 fn pieces(alloc: Global, commands: &Commands, most: u32) -> Vec<(u32, u32)>
     requires { scans_in commands.now < 2 ^ 32 }
 {

@@ -1,5 +1,7 @@
 -- Digits and open bits, one more of them.
-use Rattle.std.proofs.Common.{◌≡◌, ◌+◌, ◌-◌, ◌*◌, ◌≤◌, ◌==◌, ℕ, zero, suc, Bool, true, false, cond, List, [], ◌∷◌, ◌++◌, length, drop, Option, Some, None, is_some, refl, ap, ◌∙◌, arith, length-append}
+use Rattle.std.proofs.Common.{◌≡◌, ◌+◌, ◌-◌, ◌*◌, ◌≤◌, ◌==◌, ℕ, zero, suc, Bool, true, false, cond, List, []}
+use Rattle.std.proofs.Common.{◌∷◌, ◌++◌, length, drop, Option, Some, None, is_some, refl, ap, ◌∙◌, arith}
+use Rattle.std.proofs.Common.{length-append}
 use mathlib.Core.Bool.{beq}
 use Rattle.std.specs.Option.{option_eq}
 use Rattle.ij_text.specs.declared.digits.Radix.{Radix}
@@ -17,10 +19,12 @@ next_grows n b = by_test (b == 95)
 
 pub grows : (bs : List ℕ) (n : ℕ) → n ≤ decimal_from n bs
 grows [] n = omega arith
-grows (b ∷ bs) n = let one = next_grows n b in let others = grows bs (next_decimal n b) in omega (arith, one, others)
+grows (b ∷ bs) n = let one = next_grows n b in
+    let others = grows bs (next_decimal n b) in omega (arith, one, others)
 
 -- a text has no fewer bits than what stands after some of its bytes
-pub fewer : (radix : Radix) (text : List ℕ) (k : ℕ) → length (text_bits radix (drop k text)) ≤ length (text_bits radix text)
+pub fewer : (radix : Radix) (text : List ℕ) (k : ℕ)
+    → length (text_bits radix (drop k text)) ≤ length (text_bits radix text)
 fewer radix text zero = omega arith
 fewer radix [] (suc k) = omega arith
 fewer radix (b ∷ text) (suc k) =
@@ -39,11 +43,13 @@ open_length [] cs h = refl
 open_length (v ∷ vs) [] h = absurd (omega (arith, h))
 open_length (v ∷ vs) (c ∷ cs) h = ap suc (open_length vs cs (omega (arith, h)))
 
-pub open_more : (vs cs : List Bool) (v c : Bool) → length vs ≡ length cs → open_bits (vs ++ v ∷ []) (cs ++ c ∷ []) ≡ open_bits vs cs ++ cond c (Some v) None ∷ []
+pub open_more : (vs cs : List Bool) (v c : Bool) → length vs ≡ length cs
+    → open_bits (vs ++ v ∷ []) (cs ++ c ∷ []) ≡ open_bits vs cs ++ cond c (Some v) None ∷ []
 open_more [] [] v c h = refl
 open_more [] (d ∷ cs) v c h = absurd (omega (arith, h))
 open_more (u ∷ vs) [] v c h = absurd (omega (arith, h))
-open_more (u ∷ vs) (d ∷ cs) v c h = ap (λ (l : List (Option Bool)). cond d (Some u) None ∷ l) (open_more vs cs v c (omega (arith, h)))
+open_more (u ∷ vs) (d ∷ cs) v c h =
+    ap (λ (l : List (Option Bool)). cond d (Some u) None ∷ l) (open_more vs cs v c (omega (arith, h)))
 
 pub one_is : (bit : Option Bool) → option_eq beq bit (Some true) ≡ is_one bit
 one_is None = refl
@@ -51,9 +57,11 @@ one_is (Some true) = refl
 one_is (Some false) = refl
 
 -- open bits after others, told by whether the bit is known
-pub open_push : (vs cs : List Bool) (bit : Option Bool) (v c : Bool) → length vs ≡ length cs → v ≡ is_one bit → c ≡ is_some bit → open_bits (vs ++ v ∷ []) (cs ++ c ∷ []) ≡ open_bits vs cs ++ bit ∷ []
+pub open_push : (vs cs : List Bool) (bit : Option Bool) (v c : Bool) → length vs ≡ length cs → v ≡ is_one bit
+    → c ≡ is_some bit → open_bits (vs ++ v ∷ []) (cs ++ c ∷ []) ≡ open_bits vs cs ++ bit ∷ []
 open_push vs cs bit v c h is_v is_c =
-    open_more vs cs v c h ∙ ap (λ (b : Option Bool). open_bits vs cs ++ b ∷ []) (ap (λ d. cond d (Some v) None) is_c ∙ ap (λ u. cond (is_some bit) (Some u) None) is_v ∙ known bit)
+    open_more vs cs v c h ∙ ap (λ (b : Option Bool). open_bits vs cs ++ b ∷ [])
+    (ap (λ d. cond d (Some v) None) is_c ∙ ap (λ u. cond (is_some bit) (Some u) None) is_v ∙ known bit)
   where
     known : (b : Option Bool) → cond (is_some b) (Some (is_one b)) None ≡ b
     known None = refl

@@ -1,5 +1,8 @@
 -- Numbers in a width.
-use Rattle.std.proofs.Common.{◌≡◌, ◌↔◌, ◌+◌, ◌-◌, ◌*◌, ◌/◌, ◌%◌, ◌^◌, ◌<◌, ◌≤◌, ◌==◌, ℕ, zero, suc, Bool, true, false, not, cond, nat_eq, IsTrue, List, [], ◌∷◌, ◌++◌, length, get_or, Option, Some, None, min, refl, sym, ap, ◌∙◌, arith, inl, inr, append_assoc, append-nil}
+use Rattle.std.proofs.Common.{◌≡◌, ◌↔◌, ◌+◌, ◌-◌, ◌*◌, ◌/◌, ◌%◌, ◌^◌, ◌<◌, ◌≤◌, ◌==◌, ℕ, zero, suc, Bool}
+use Rattle.std.proofs.Common.{true, false, not, cond, nat_eq, IsTrue, List, [], ◌∷◌, ◌++◌, length, get_or}
+use Rattle.std.proofs.Common.{Option, Some, None, min, refl, sym, ap, ◌∙◌, arith, inl, inr, append_assoc}
+use Rattle.std.proofs.Common.{append-nil}
 use Rattle.std.proofs.Math.Nat.{le-div_iff_mul-le, div-one, div-div-eq-div-mul, pow-succ'}
 use Rattle.std.proofs.Math.Pow.{pow_mono}
 use Rattle.std.proofs.lemmas.Nat.{pow_pos}
@@ -36,18 +39,24 @@ bits_split zero b n =
     let all : 0 + b ≡ b = omega arith in ap (λ k. bits_of k n) all ∙ ap (bits_of b) (sym (div-one n))
 bits_split (suc a) b n =
     let next : suc a + b ≡ suc (a + b) = omega arith in
-    let rest : n / 2 / 2 ^ a ≡ n / 2 ^ suc a = div-div-eq-div-mul n 2 (2 ^ a) ∙ ap (λ m. n / m) (sym (pow-succ' 2 a)) in
-    ap (λ k. bits_of k n) next ∙ ap (λ (l : List Bool). ((n % 2) == 1) ∷ l) (bits_split a b (n / 2) ∙ ap (λ x. bits_of a (n / 2) ++ bits_of b x) rest)
+    let rest : n / 2 / 2 ^ a ≡ n / 2 ^ suc a =
+    div-div-eq-div-mul n 2 (2 ^ a) ∙ ap (λ m. n / m) (sym (pow-succ' 2 a)) in
+    ap (λ k. bits_of k n) next ∙ ap (λ (l : List Bool). ((n % 2) == 1) ∷ l)
+    (bits_split a b (n / 2) ∙ ap (λ x. bits_of a (n / 2) ++ bits_of b x) rest)
 
 bits_low : (k x : ℕ) → k ≤ 64 → bits_of k (x % 18446744073709551616) ≡ bits_of k x
 bits_low k x few =
-    ext_get_or false (bits_of k (x % 18446744073709551616)) (bits_of k x) (length-bits_of k (x % 18446744073709551616) ∙ sym (length-bits_of k x))
+    ext_get_or false (bits_of k (x % 18446744073709551616)) (bits_of k x)
+    (length-bits_of k (x % 18446744073709551616) ∙ sym (length-bits_of k x))
     (λ i within.
     let low : i < k = omega (arith, length-bits_of k (x % 18446744073709551616)) in
-    get_or-bits_of k (x % 18446744073709551616) i low ∙ ap (λ b. b == 1) (inside x i (omega arith)) ∙ sym (get_or-bits_of k x i low))
+    get_or-bits_of k (x % 18446744073709551616) i low
+    ∙ ap (λ b. b == 1) (inside x i (omega arith)) ∙ sym (get_or-bits_of k x i low))
 
 -- one word of a decimal
-pub word_more : (bits : List Bool) (w m b x : ℕ) (all : List Bool) → m ≡ min w 64 → b ≡ w - 64 → bits ++ bits_of w x ≡ all → (bits ++ bits_of m (x % 18446744073709551616)) ++ bits_of b (x / 18446744073709551616) ≡ all
+pub word_more : (bits : List Bool) (w m b x : ℕ) (all : List Bool) → m ≡ min w 64
+    → b ≡ w - 64 → bits ++ bits_of w x ≡ all
+    → (bits ++ bits_of m (x % 18446744073709551616)) ++ bits_of b (x / 18446744073709551616) ≡ all
 word_more bits w m b x all size left h =
     let rest : ℕ = x / 18446744073709551616 in
     let both : bits_of m (x % 18446744073709551616) ++ bits_of b rest ≡ bits_of w x =
@@ -60,25 +69,30 @@ word_more bits w m b x all size left h =
       | inr long ↦
           let word : 64 ≡ m = omega arith in
           let whole : m + b ≡ w = omega arith in
-          ap (λ k. bits_of m x ++ bits_of b (x / 2 ^ k)) word ∙ sym (bits_split m b x) ∙ ap (λ k. bits_of k x) whole
+          ap (λ k. bits_of m x ++ bits_of b (x / 2 ^ k)) word
+          ∙ sym (bits_split m b x) ∙ ap (λ k. bits_of k x) whole
     ] in
-    append_assoc bits (bits_of m (x % 18446744073709551616)) (bits_of b rest) ∙ ap (λ (l : List Bool). bits ++ l) both ∙ h
+    append_assoc bits (bits_of m (x % 18446744073709551616)) (bits_of b rest)
+    ∙ ap (λ (l : List Bool). bits ++ l) both ∙ h
 
 -- ---- open bits
 
-pub open_get : (vs cs : List Bool) (i : ℕ) → length vs ≡ length cs → i < length vs → get_or (open_bits vs cs) i (Some false) ≡ cond (get_or cs i false) (Some (get_or vs i false)) None
+pub open_get : (vs cs : List Bool) (i : ℕ) → length vs ≡ length cs → i < length vs
+    → get_or (open_bits vs cs) i (Some false) ≡ cond (get_or cs i false) (Some (get_or vs i false)) None
 open_get [] cs i h lt = absurd (omega (arith, lt))
 open_get (v ∷ vs) [] i h lt = absurd (omega (arith, h))
 open_get (v ∷ vs) (c ∷ cs) zero h lt = refl
 open_get (v ∷ vs) (c ∷ cs) (suc i) h lt = open_get vs cs i (omega (arith, h)) (omega (arith, lt))
 
-pub open_past : (vs cs : List Bool) (i : ℕ) → length vs ≡ length cs → length vs ≤ i → Some false ≡ get_or (open_bits vs cs) i (Some false)
+pub open_past : (vs cs : List Bool) (i : ℕ) → length vs ≡ length cs → length vs ≤ i
+    → Some false ≡ get_or (open_bits vs cs) i (Some false)
 open_past [] cs i h le = refl
 open_past (v ∷ vs) [] i h le = absurd (omega (arith, h))
 open_past (v ∷ vs) (c ∷ cs) zero h le = absurd (omega (arith, le))
 open_past (v ∷ vs) (c ∷ cs) (suc i) h le = open_past vs cs i (omega (arith, h)) (omega (arith, le))
 
 -- a bit as it is read
-pub read_bit : (result : Option Bool) (v c : Bool) → (c ≡ true → result ≡ Some v) → (c ≡ false → result ≡ None) → result ≡ cond c (Some v) None
+pub read_bit : (result : Option Bool) (v c : Bool) → (c ≡ true → result ≡ Some v)
+    → (c ≡ false → result ≡ None) → result ≡ cond c (Some v) None
 read_bit result v true h k = h refl
 read_bit result v false h k = k refl

@@ -11,7 +11,8 @@ zero_alone = refl
 binary : number_of_text (codes "0b1_x0") ≡ Some (InBits (Some false ∷ None ∷ Some true ∷ []))
 binary = refl
 
-hexadecimal : number_of_text (codes "0xax") ≡ Some (InBits (None ∷ None ∷ None ∷ None ∷ Some false ∷ Some true ∷ Some false ∷ Some true ∷ []))
+hexadecimal : number_of_text (codes "0xax")
+    ≡ Some (InBits (None ∷ None ∷ None ∷ None ∷ Some false ∷ Some true ∷ Some false ∷ Some true ∷ []))
 hexadecimal = refl
 
 several_between : number_of_text (codes "1__0") ≡ Some (InDecimal 10)
@@ -32,7 +33,8 @@ upper_case_base = refl
 upper_case_x : number_of_text (codes "0bX") ≡ None
 upper_case_x = refl
 
-upper_case_digit : number_of_text (codes "0xA") ≡ Some (InBits (Some false ∷ Some true ∷ Some false ∷ Some true ∷ []))
+upper_case_digit : number_of_text (codes "0xA")
+    ≡ Some (InBits (Some false ∷ Some true ∷ Some false ∷ Some true ∷ []))
 upper_case_digit = refl
 
 padded : bits_in 3 (InBits (None ∷ [])) ≡ None ∷ Some false ∷ Some false ∷ []

@@ -1,5 +1,6 @@
 -- Names in a list of distinct ones: the number of a name is its position.
-use Rattle.std.specs.Prelude.{◌≡◌, ℕ, ◌<◌, cond, List, [], ◌∷◌, ◌++◌, length, Option, is_some, unwrap_or, position, slice_index_or}
+use Rattle.std.specs.Prelude.{◌≡◌, ℕ, ◌<◌, cond, List, [], ◌∷◌, ◌++◌, length, Option, is_some, unwrap_or}
+use Rattle.std.specs.Prelude.{position, slice_index_or}
 use Rattle.std.specs.Str.{bytes_eq}
 
 -- the number of a name, if it is there
@@ -16,4 +17,5 @@ with_name names name = cond (is_some (number_in names name)) names (names ++ nam
 
 -- no name stands twice
 abbrev pub AreDistinct : List (List ℕ) → Type 0
-AreDistinct names = (i j : ℕ) → i < length names → j < length names → slice_index_or names i [] ≡ slice_index_or names j [] → i ≡ j
+AreDistinct names = (i j : ℕ) → i < length names → j < length names
+    → slice_index_or names i [] ≡ slice_index_or names j [] → i ≡ j

@@ -1,6 +1,7 @@
--- The numbers of PDL (IEEE 1687-2014): decimals, `0b` with the digits 0, 1 and x, and `0x` with hexadecimal digits and x.
--- Any number of `_` may stand between two digits.
-use Rattle.std.specs.Prelude.{◌≢◌, ℕ, ◌+◌, ◌-◌, ◌*◌, ◌^◌, ◌<◌, ◌≤◌, ◌==◌, Bool, true, false, ◌&&◌, ◌||◌, cond, nat_lt, List, [], ◌∷◌, ◌++◌, length, map, get_or, Option, Some, None}
+-- The numbers of PDL (IEEE 1687-2014): decimals, `0b` with the digits 0, 1 and x, and `0x` with hexadecimal
+-- digits and x. Any number of `_` may stand between two digits.
+use Rattle.std.specs.Prelude.{◌≢◌, ℕ, ◌+◌, ◌-◌, ◌*◌, ◌^◌, ◌<◌, ◌≤◌, ◌==◌, Bool, true, false, ◌&&◌, ◌||◌, cond}
+use Rattle.std.specs.Prelude.{nat_lt, List, [], ◌∷◌, ◌++◌, length, map, get_or, Option, Some, None}
 use Rattle.std.specs.Char.{is_ascii_digit, is_ascii_hexdigit}
 use Rattle.std.specs.List.{range_with_len}
 use Rattle.ij_bits.specs.BitLists.{bits_of}
@@ -21,7 +22,8 @@ is_digit Sixteen b = is_ascii_hexdigit b || b == 120
 -- digits and `_` (95), the last of them a digit; it is told whether a digit stands before
 abbrev pub go_on : Radix → Bool → List ℕ → Bool
 go_on radix after_digit [] = after_digit
-go_on radix after_digit (b ∷ bs) = cond (is_digit radix b) (go_on radix true bs) (b == 95 && go_on radix false bs)
+go_on radix after_digit (b ∷ bs) =
+    cond (is_digit radix b) (go_on radix true bs) (b == 95 && go_on radix false bs)
 
 -- a digit, and then digits and `_`, the last of them a digit
 abbrev pub are_digits : Radix → List ℕ → Bool
@@ -71,11 +73,13 @@ value_of Sixteen text = InBits (text_bits Sixteen text)
 abbrev pub said : Radix → List ℕ → Option Written
 said radix text = cond (are_digits radix text) (Some (value_of radix text)) None
 
--- the number that a text says, if it is one: after `0b` (48, 98) and `0x` (48, 120) stand binary and hexadecimal digits
+-- the number that a text says, if it is one: after `0b` (48, 98) and `0x` (48, 120) stand binary and
+-- hexadecimal digits
 abbrev pub number_of_text : List ℕ → Option Written
 number_of_text [] = None
 number_of_text (a ∷ []) = said Ten (a ∷ [])
-number_of_text (a ∷ b ∷ bs) = cond (a == 48 && b == 98) (said Two bs) (cond (a == 48 && b == 120) (said Sixteen bs) (said Ten (a ∷ b ∷ bs)))
+number_of_text (a ∷ b ∷ bs) = cond (a == 48 && b == 98) (said Two bs)
+    (cond (a == 48 && b == 120) (said Sixteen bs) (said Ten (a ∷ b ∷ bs)))
 
 -- a decimal above 2^128 - 1, and digits for more than 4096 bits
 abbrev pub IsTooWide : Written → Type 0
@@ -110,4 +114,5 @@ bits_in width (InBits bits) = map (λ k. get_or bits k (Some false)) (range_with
 -- a number has a 1 or an open bit at the width or above
 abbrev pub IsWide : ℕ → Written → Type 0
 IsWide width (InDecimal n) = 2 ^ width ≤ n
-IsWide width (InBits bits) = (k : ℕ) × (width ≤ k) × (k < length bits) × (get_or bits k (Some false) ≢ Some false)
+IsWide width (InBits bits) = (k : ℕ) × (width ≤ k) × (k < length bits)
+    × (get_or bits k (Some false) ≢ Some false)

@@ -11,7 +11,8 @@ no_place = record { line = 0; col = 0 }
 
 -- after a line feed (10) a line begins
 abbrev pub next_place : Place → ℕ → Place
-next_place p b = cond (b == 10) (record { line = suc p.line; col = 1 }) (record { line = p.line; col = suc p.col })
+next_place p b = cond (b == 10) (record { line = suc p.line; col = 1 })
+    (record { line = p.line; col = suc p.col })
 
 -- the place of the byte after some bytes that begin at a place
 abbrev pub place_after : Place → List ℕ → Place

@@ -1,7 +1,9 @@
 // Digits and their values.
-ghost use Rattle.std.specs.Prelude.{◌≡◌, ◌+◌, ◌*◌, ◌^◌, ◌<◌, ◌≤◌, ◌++◌, [], cond, true, length, Some, None, nat_lt, IfOk, OnOk, MatchOption, ◌==◌, ◌/◌};
+ghost use Rattle.std.specs.Prelude.{◌≡◌, ◌+◌, ◌*◌, ◌^◌, ◌<◌, ◌≤◌, ◌++◌, [], cond, true, length, Some, None};
+ghost use Rattle.std.specs.Prelude.{nat_lt, IfOk, OnOk, MatchOption, ◌==◌, ◌/◌};
 ghost use Rattle.std.specs.Char.{is_ascii_hexdigit};
-ghost use Rattle.ij_text.specs.Numbers.{are_digits, decimal_from, digit_bits, go_on, hex_value, is_digit, next_decimal, text_bits};
+ghost use Rattle.ij_text.specs.Numbers.{are_digits, decimal_from, digit_bits, go_on, hex_value, is_digit};
+ghost use Rattle.ij_text.specs.Numbers.{next_decimal, text_bits};
 
 use crate::open_bits::OpenBits;
 use ij_bits::OutOfMemory;

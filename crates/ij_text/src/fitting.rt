@@ -1,5 +1,6 @@
 // Numbers in a width.
-ghost use Rattle.std.specs.Prelude.{◌≡◌, ◌↔◌, ◌^◌, ◌<◌, ◌≤◌, map, get_or, true, false, Some, IsTrue, IfOk, IsErrOf};
+ghost use Rattle.std.specs.Prelude.{◌≡◌, ◌↔◌, ◌^◌, ◌<◌, ◌≤◌, map, get_or, true, false, Some, IsTrue, IfOk};
+ghost use Rattle.std.specs.Prelude.{IsErrOf};
 ghost use Rattle.ij_bits.specs.BitLists.{bits_of};
 ghost use Rattle.ij_text.specs.Numbers.{InBits, IsWide, bits_in, seen, tern_bits};
 ghost use Rattle.ij_text.specs.declared.number.FitFault.{FitFault};
@@ -65,8 +66,8 @@ fn tern_in(alloc: Global, t: &Tern, width: u32) -> Result<Tern, OutOfMemory>
 
 /// A number in `width` bits, with zeros added on the left. Position 0 is the lowest bit.
 ///
-/// `Wide` is answered exactly where a 1 or an x stands at position `width` or above. Zeros there are dropped. The bits take
-/// memory by `alloc`; where there is none, the answer is `OutOfMemory`.
+/// `Wide` is answered exactly where a 1 or an x stands at position `width` or above. Zeros there are dropped.
+/// The bits take memory by `alloc`; where there is none, the answer is `OutOfMemory`.
 pub fn fit(alloc: Global, number: &Number, width: u32) -> Result<Tern, FitFault>
     ensures ok { IfOk result (λ t. tern_bits t ≡ bits_in width (seen number.now)) }
     ensures wide { IsErrOf result FitFault.Wide ↔ IsWide width (seen number.now) }

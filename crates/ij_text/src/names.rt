@@ -1,5 +1,6 @@
 // Names with numbers.
-ghost use Rattle.std.specs.Prelude.{◌≡◌, ◌+◌, ◌^◌, ◌<◌, ◌++◌, [], codes, length, slice_get, Some, IsTrue, ◌↔◌, OnOk, OnErr, IfOk};
+ghost use Rattle.std.specs.Prelude.{◌≡◌, ◌+◌, ◌^◌, ◌<◌, ◌++◌, [], codes, length, slice_get, Some, IsTrue};
+ghost use Rattle.std.specs.Prelude.{◌↔◌, OnOk, OnErr, IfOk};
 ghost use Rattle.ij_text.specs.Numbering.{AreDistinct, number_in, number_or_next, with_name};
 
 use crate::Name;
@@ -25,10 +26,11 @@ pub fn with_dotted(text: Name, name: &[u8]) -> Result<Name, OutOfMemory>
     Ok(List::from(bytes))
 }
 
-/// A list of distinct names, each of which has a number: its position, counted from 0 in the order in which the names came.
+/// A list of distinct names, each of which has a number: its position, counted from 0 in the order in which
+/// the names came.
 ///
-/// Contracts see the list of the names. Only [`intern`](Names::intern) takes memory, by the allocator that the list was
-/// made with.
+/// Contracts see the list of the names. Only [`intern`](Names::intern) takes memory, by the allocator that
+/// the list was made with.
 #[derive(Drop)]
 pub struct Names {
     alloc: Global,
@@ -43,7 +45,8 @@ impl Model for Names {
 
     ghost view = { λ n. map (λ key. key.items) (keys n.numbered) };
 
-    ghost invariant = { λ n. (map (λ name. name.items) (values n.numbered) ≡ map (λ key. key.items) (keys n.numbered)) × (length (map (λ key. key.items) (keys n.numbered)) < 2 ^ 32) };
+    ghost invariant = { λ n. (map (λ name. name.items) (values n.numbered) ≡ map (λ key. key.items) (keys n.numbered))
+        × (length (map (λ key. key.items) (keys n.numbered)) < 2 ^ 32) };
 }
 
 impl Names {

@@ -15,8 +15,8 @@ use std::alloc::Global;
 pub enum Number {
     /// A decimal, without x. It has no width of its own.
     Decimal(u128),
-    /// Binary or hexadecimal digits, of which some may be x: one bit for each digit, or four. Position 0 is the lowest
-    /// bit of the last digit.
+    /// Binary or hexadecimal digits, of which some may be x: one bit for each digit, or four. Position 0 is
+    /// the lowest bit of the last digit.
     Digits(Tern),
 }
 
@@ -93,17 +93,20 @@ fn read(alloc: Global, text: &[u8], at: Place) -> Result<Number, NumberFault>
     }
 }
 
-/// The number that a text says, as PDL (IEEE 1687-2014) writes numbers: a decimal, `0b` with the digits 0, 1 and x, or `0x`
-/// with hexadecimal digits, of either case, and x, which are four open bits. Any number of `_` may stand between two digits.
+/// The number that a text says, as PDL (IEEE 1687-2014) writes numbers: a decimal, `0b` with the digits 0, 1
+/// and x, or `0x` with hexadecimal digits, of either case, and x, which are four open bits. Any number of `_`
+/// may stand between two digits.
 ///
-/// `BadNumber` is answered exactly where the text is none of these, and `TooWide` exactly where a decimal is above
-/// 2^128 - 1 or the digits stand for more than 4096 bits, leading zeros included. Both have the place `at`, which is
-/// where the text stands. The bits take memory by `alloc`; where there is none, the answer is `OutOfMemory`.
+/// `BadNumber` is answered exactly where the text is none of these, and `TooWide` exactly where a decimal is
+/// above 2^128 - 1 or the digits stand for more than 4096 bits, leading zeros included. Both have the place
+/// `at`, which is where the text stands. The bits take memory by `alloc`; where there is none, the answer is
+/// `OutOfMemory`.
 pub fn read_number(alloc: Global, text: &[u8], at: Place) -> Result<Number, NumberFault>
     ensures ok { IfOk result (λ number. number_of_text text.now ≡ Some (seen number)) }
     ensures bad_number { IsErrOf result (NumberFault.BadNumber at) ↔ (number_of_text text.now ≡ None) }
     ensures too_wide { IsErrOf result (NumberFault.TooWide at) ↔ SaysTooWide (number_of_text text.now) }
-    ensures others { IfErr result (λ e. (e ≡ NumberFault.BadNumber at) ⊎ (e ≡ NumberFault.TooWide at) ⊎ (e ≡ NumberFault.OutOfMemory)) }
+    ensures others { IfErr result (λ e. (e ≡ NumberFault.BadNumber at)
+        ⊎ (e ≡ NumberFault.TooWide at) ⊎ (e ≡ NumberFault.OutOfMemory)) }
 {
     read(alloc, text, at)
 }

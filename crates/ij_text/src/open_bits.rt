@@ -1,5 +1,6 @@
 // Bits of which some are open, added one by one or a digit at a time.
-ghost use Rattle.std.specs.Prelude.{◌≡◌, ◌+◌, ◌^◌, ◌<◌, ◌≤◌, ◌++◌, ◌∷◌, [], cond, length, map, None, Some, OnOk, OnErr, IfOk};
+ghost use Rattle.std.specs.Prelude.{◌≡◌, ◌+◌, ◌^◌, ◌<◌, ◌≤◌, ◌++◌, ◌∷◌, [], cond, length, map, None, Some};
+ghost use Rattle.std.specs.Prelude.{OnOk, OnErr, IfOk};
 ghost use Rattle.ij_bits.specs.BitLists.{bits_of};
 ghost use Rattle.ij_text.specs.Numbers.{open_bits};
 
@@ -7,8 +8,8 @@ use ij_bits::{Bits, OutOfMemory, Tern};
 use std::alloc::Global;
 use std::marker::Model;
 
-/// Bits, each of them 0, 1 or open, as the digits of a number give them (an `x` stands for open bits). Position 0 is the
-/// lowest bit. Contracts see a list of optional bits, none where the bit is open.
+/// Bits, each of them 0, 1 or open, as the digits of a number give them (an `x` stands for open bits).
+/// Position 0 is the lowest bit. Contracts see a list of optional bits, none where the bit is open.
 #[derive(Drop)]
 pub struct OpenBits {
     value: Bits,
@@ -23,7 +24,8 @@ impl Model for OpenBits {
 
     ghost view = { λ b. open_bits b.value.items b.care.items };
 
-    ghost invariant = { λ b. (length b.value.items ≡ length b.care.items) × ((k : ℕ) → slice_index_or b.care.items k false ≡ false → slice_index_or b.value.items k false ≡ false) };
+    ghost invariant = { λ b. (length b.value.items ≡ length b.care.items) × ((k : ℕ)
+        → slice_index_or b.care.items k false ≡ false → slice_index_or b.value.items k false ≡ false) };
 }
 
 /// A number, or 0 for open bits.
@@ -60,7 +62,8 @@ impl OpenBits {
     pub fn push_digit(&mut self, value: u64, n: u32, is_open: bool) -> Result<(), OutOfMemory>
         requires short { length self.old + n < 2 ^ 32 }
         requires word { n ≤ 64 }
-        ensures ok { OnOk result (self.new ≡ self.old ++ map (λ bit. cond is_open None (Some bit)) (bits_of n value)) }
+        ensures ok { OnOk result
+            (self.new ≡ self.old ++ map (λ bit. cond is_open None (Some bit)) (bits_of n value)) }
         ensures err { OnErr result (self.new ≡ self.old) }
     {
         self.value.reserve(n)?;

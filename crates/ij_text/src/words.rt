@@ -23,8 +23,8 @@ fn are_in_name(bytes: &[u8]) -> bool
     bytes.iter().all(|b| in_name(*b))
 }
 
-/// Whether a text is a name of ICL and PDL (IEEE 1687-2014): a letter or `_`, and then letters, digits and `_`. A keyword is a
-/// name, too. Takes no memory.
+/// Whether a text is a name of ICL and PDL (IEEE 1687-2014): a letter or `_`, and then letters, digits and
+/// `_`. A keyword is a name, too. Takes no memory.
 pub fn is_name(text: &[u8]) -> bool
     ensures { result ≡ words.is_name text.now }
 {

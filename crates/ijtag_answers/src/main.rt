@@ -1,5 +1,6 @@
-//! Calls the program over files in memory, case by case, and compares what it answers. Each word is the name of a topic, a file of
-//! cases; DEVELOPING says how one is written. It prints how many cases each topic has, and after a case that differs what was found.
+//! Calls the program over files in memory, case by case, and compares what it answers. Each word is the name
+//! of a topic, a file of cases; DEVELOPING says how one is written. It prints how many cases each topic has,
+//! and after a case that differs what was found.
 #![tactic(auto)]
 
 mod reader;

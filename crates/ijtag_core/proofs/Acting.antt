@@ -17,16 +17,25 @@ use Rattle.ijtag_work.specs.Stops.{IsEarly}
 use Rattle.ijtag_work.specs.Seen.{file_stop, output_stop}
 use Rattle.ijtag_work.specs.Task.{Row, Task, task_of, work}
 
-pub row_gives : (row : Row) (files : Option Files) (texts : List (List ℕ)) (named : Texts) (it : SeenAccepted) → (loaded files (loads_of row.inputs)).gives texts → texts_of row.inputs texts ≡ Some named
-    → (accepted named).gives it → (leaves : Leaves) → (row.leaves it).gives leaves → (work files (task_of row)).gives leaves
+pub row_gives : (row : Row) (files : Option Files) (texts : List (List ℕ)) (named : Texts) (it : SeenAccepted)
+    → (loaded files (loads_of row.inputs)).gives texts → texts_of row.inputs texts ≡ Some named
+    → (accepted named).gives it → (leaves : Leaves) → (row.leaves it).gives leaves
+    → (work files (task_of row)).gives leaves
 row_gives row files texts named it read is given leaves left =
     (texts, read, (it, subst (λ (t : Option Texts). (accepted_of t).gives it) (sym is) given, left))
 
 -- what it refuses, the whole work refuses
-pub row_refuses : (row : Row) (files : Option Files) (texts : List (List ℕ)) (named : Texts) (it : SeenAccepted) → (loaded files (loads_of row.inputs)).gives texts → texts_of row.inputs texts ≡ Some named
-    → (accepted named).gives it → (refusal : Refusal) → (row.leaves it).refuses refusal → (work files (task_of row)).refuses refusal
+pub row_refuses : (row : Row) (files : Option Files) (texts : List (List ℕ)) (named : Texts)
+    (it : SeenAccepted) → (loaded files (loads_of row.inputs)).gives texts
+    → texts_of row.inputs texts ≡ Some named
+    → (accepted named).gives it → (refusal : Refusal) → (row.leaves it).refuses refusal
+    → (work files (task_of row)).refuses refusal
 row_refuses row files texts named it read is given refusal refuses =
-    inr (texts, read, inr (it, subst (λ (t : Option Texts). (accepted_of t).gives it) (sym is) given, refuses))
+    inr (
+      texts,
+      read,
+      inr (it, subst (λ (t : Option Texts). (accepted_of t).gives it) (sym is) given, refuses),
+    )
 
 -- without files that are written before, nothing has changed
 pub none_first : (old new : Option Files) → new ≡ old → AreFirstWritten never [] old new
@@ -42,19 +51,28 @@ output_late Failed early = early
 output_late OutOfMemory early = early
 
 -- a write of a file is refused
-pub file_stops : {T : Type 0} (part : Part Leaves) (task : Task) (c : Counts) (name : List ℕ) (fault : StoreFault) → (◌≡◌ {A = Result T StoreFault} (Err fault) (Err Failed) → (leaves : Leaves) × part.gives leaves) → IsOneOf task.writes name
-    → (◌≡◌ {A = Result T StoreFault} (Err fault) (Err Failed) → Rose (c.store name) (c.store_now name)) → IsLateStop part task c (file_stop name fault)
+pub file_stops : {T : Type 0} (part : Part Leaves) (task : Task)
+    (c : Counts) (name : List ℕ) (fault : StoreFault)
+    → (◌≡◌ {A = Result T StoreFault} (Err fault) (Err Failed) → (leaves : Leaves) × part.gives leaves)
+    → IsOneOf task.writes name
+    → (◌≡◌ {A = Result T StoreFault} (Err fault) (Err Failed) → Rose (c.store name) (c.store_now name))
+    → IsLateStop part task c (file_stop name fault)
 file_stops part task c name Failed some own rose = (some refl, (own, rose refl))
 file_stops part task c name OutOfMemory some own rose = tt
 
 -- or one of the output
-pub output_stops : {T : Type 0} (part : Part Leaves) (task : Task) (c : Counts) (fault : StoreFault) → (◌≡◌ {A = Result T StoreFault} (Err fault) (Err Failed) → (leaves : Leaves) × part.gives leaves) → IsTrue task.prints
-    → (◌≡◌ {A = Result T StoreFault} (Err fault) (Err Failed) → Rose c.output c.output_now) → IsLateStop part task c (output_stop fault)
+pub output_stops : {T : Type 0} (part : Part Leaves) (task : Task) (c : Counts) (fault : StoreFault)
+    → (◌≡◌ {A = Result T StoreFault} (Err fault) (Err Failed) → (leaves : Leaves) × part.gives leaves)
+    → IsTrue task.prints
+    → (◌≡◌ {A = Result T StoreFault} (Err fault) (Err Failed) → Rose c.output c.output_now)
+    → IsLateStop part task c (output_stop fault)
 output_stops part task c Failed some own rose = (some refl, (own, rose refl))
 output_stops part task c OutOfMemory some own rose = tt
 
 -- the same of the whole work
-pub file_stop_of : {T : Type 0} (files : Option Files) (task : Task) (c : Counts) (name : List ℕ) (fault : StoreFault) → (leaves : Leaves) × (work files task).gives leaves → IsOneOf task.writes name
-    → (◌≡◌ {A = Result T StoreFault} (Err fault) (Err Failed) → Rose (c.store name) (c.store_now name)) → IsStop files task c (file_stop name fault)
+pub file_stop_of : {T : Type 0} (files : Option Files) (task : Task) (c : Counts) (name : List ℕ)
+    (fault : StoreFault) → (leaves : Leaves) × (work files task).gives leaves → IsOneOf task.writes name
+    → (◌≡◌ {A = Result T StoreFault} (Err fault) (Err Failed) → Rose (c.store name) (c.store_now name))
+    → IsStop files task c (file_stop name fault)
 file_stop_of files task c name Failed some own rose = (inl some, (own, rose refl))
 file_stop_of files task c name OutOfMemory some own rose = tt

@@ -1,5 +1,6 @@
 -- A list of files: its first one, and the others after it.
-use Rattle.std.proofs.Common.{◌≡◌, ◌<◌, ◌≤◌, ◌-◌, List, [], ◌∷◌, length, get_or, take, drop, map, refl, sym, ap, arith, length-take, length-drop}
+use Rattle.std.proofs.Common.{◌≡◌, ◌<◌, ◌≤◌, ◌-◌, List, [], ◌∷◌, length, get_or, take, drop, map, refl, sym}
+use Rattle.std.proofs.Common.{ap, arith, length-take, length-drop}
 use Rattle.std.proofs.lemmas.List.{take_all}
 use Rattle.ijtag_core.specs.Files.{seen_file}
 use Rattle.ijtag_core.specs.declared.made_files.MadeFile.{MadeFile}
@@ -7,7 +8,10 @@ use Rattle.ijtag_core.specs.declared.made_files.MadeFile.{MadeFile}
 -- what stands for a file where there is none
 abbrev pub no_file : MadeFile
 no_file = record {
-  name = record { stem = record { ref_ptr = (0, 0); now = [] }; ending = record { ref_ptr = (0, 0); now = [] } };
+  name = record {
+    stem = record { ref_ptr = (0, 0); now = [] };
+    ending = record { ref_ptr = (0, 0); now = [] };
+  };
   text = record { ref_ptr = (0, 0); now = [] };
 }
 
@@ -19,9 +23,11 @@ others_of files = take (length files - 1) (drop 1 files)
 
 pub cut : (files : List MadeFile) → 1 ≤ length files → files ≡ first_of files ∷ others_of files
 cut [] some = absurd (omega (arith, some))
-cut (file ∷ files) some = ap (λ (fs : List MadeFile). file ∷ fs) (sym (take_all (length (file ∷ files) - 1) files (omega arith)))
+cut (file ∷ files) some =
+    ap (λ (fs : List MadeFile). file ∷ fs) (sym (take_all (length (file ∷ files) - 1) files (omega arith)))
 
-pub seen_cut : (files : List MadeFile) → 1 ≤ length files → map seen_file files ≡ seen_file (first_of files) ∷ map seen_file (others_of files)
+pub seen_cut : (files : List MadeFile) → 1 ≤ length files
+    → map seen_file files ≡ seen_file (first_of files) ∷ map seen_file (others_of files)
 seen_cut files some = ap (map seen_file) (cut files some)
 
 pub none_left : (files : List MadeFile) → length files < 1 → files ≡ []

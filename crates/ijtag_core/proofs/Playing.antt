@@ -22,17 +22,20 @@ module _ (svf : List ℕ) (it : SeenAccepted) where
   abbrev pub left : List ℕ → List SeenCommand → Leaves
   left bytes commands = made [] svf bytes (made_totals it commands) (run_differs it commands)
 
-  pub left_given : (bytes : List ℕ) (commands : List SeenCommand) → (written_text it).gives bytes → (commands_of bytes).gives commands → (made_of [] svf it).gives (left bytes commands)
+  pub left_given : (bytes : List ℕ) (commands : List SeenCommand) → (written_text it).gives bytes
+      → (commands_of bytes).gives commands → (made_of [] svf it).gives (left bytes commands)
   unfolding made_of
   left_given bytes commands given is = (bytes, given, (commands, is, refl))
 
   -- there is something, where there is a text
-  pub some_left : (bytes : List ℕ) → (written_text it).gives bytes → (leaves : Leaves) × (made_of [] svf it).gives leaves
+  pub some_left : (bytes : List ℕ) → (written_text it).gives bytes
+      → (leaves : Leaves) × (made_of [] svf it).gives leaves
   some_left bytes given =
       let commands = found svf it bytes given in
       (left bytes commands.0, left_given bytes commands.0 given commands.1)
 
-  pub svf_stop : (c : Counts) (stop : Stop) → IsSvfStop (written_text it) svf c.store c.store_now stop → IsPlayStop (made_of [] svf it) svf c stop
+  pub svf_stop : (c : Counts) (stop : Stop) → IsSvfStop (written_text it) svf c.store c.store_now stop
+      → IsPlayStop (made_of [] svf it) svf c stop
   svf_stop c (WriteFault n) is = (some_left is.0.0 is.0.1, is.1)
   svf_stop c NoMemory is = tt
   svf_stop c Usage is = absurd is
@@ -41,25 +44,51 @@ module _ (svf : List ℕ) (it : SeenAccepted) where
   svf_stop c OutputFault is = absurd is
 
   module _ (old new : Seen) where
-    pub svf_part : new.printed ≡ old.printed → ((new.files ≡ old.files) ⊎ IsPartFiled (written_text it) old.files new.files svf) → IsPartOf (made_of [] svf it) old new
+    pub svf_part : new.printed ≡ old.printed
+        → ((new.files ≡ old.files) ⊎ IsPartFiled (written_text it) old.files new.files svf)
+        → IsPartOf (made_of [] svf it) old new
     svf_part silent either = elim either [
       | inl same ↦ inl (same, silent)
       | inr part ↦
           let some = found svf it part.bytes part.given in
           inr
-          (record { leaves = left part.bytes some.0; given = left_given part.bytes some.0 part.given some.1; files = inr (part.held, tt); printed = adds_none (made_totals it some.0) silent; in_order = inl silent })
+          (record {
+            leaves = left part.bytes some.0;
+            given = left_given part.bytes some.0 part.given some.1;
+            files = inr (part.held, tt);
+            printed = adds_none (made_totals it some.0) silent;
+            in_order = inl silent;
+          })
     ]
 
-    module _ (commands : List SeenCommand) (h : HasCommands (written_text it) old.files new.files svf commands) where
-      pub line_stop : {T : Type 0} (c : Counts) (fault : StoreFault) → (◌≡◌ {A = Result T StoreFault} (Err fault) (Err Failed) → Rose c.output c.output_now) → IsPlayStop (made_of [] svf it) svf c (output_stop fault)
-      line_stop c Failed rose = ((left h.bytes commands, left_given h.bytes commands h.given h.found), rose refl)
+    module _ (commands : List SeenCommand)
+        (h : HasCommands (written_text it) old.files new.files svf commands) where
+      pub line_stop : {T : Type 0} (c : Counts) (fault : StoreFault)
+          → (◌≡◌ {A = Result T StoreFault} (Err fault) (Err Failed) → Rose c.output c.output_now)
+          → IsPlayStop (made_of [] svf it) svf c (output_stop fault)
+      line_stop c Failed rose =
+          ((left h.bytes commands, left_given h.bytes commands h.given h.found), rose refl)
       line_stop c OutOfMemory rose = tt
 
-      pub line_part : AddsPart old.printed new.printed (made_totals it commands) → IsPartOf (made_of [] svf it) old new
+      pub line_part : AddsPart old.printed new.printed (made_totals it commands)
+          → IsPartOf (made_of [] svf it) old new
       line_part part =
           inr
-          (record { leaves = left h.bytes commands; given = left_given h.bytes commands h.given h.found; files = inl (h.held, tt); printed = part; in_order = inr (h.held, tt) })
+          (record {
+            leaves = left h.bytes commands;
+            given = left_given h.bytes commands h.given h.found;
+            files = inl (h.held, tt);
+            printed = part;
+            in_order = inr (h.held, tt);
+          })
 
-      pub line_done : (differs : Bool) → Adds old.printed new.printed (made_totals it commands) → differs ≡ run_differs it commands → IsDone (made_of [] svf it) old new differs
+      pub line_done : (differs : Bool) → Adds old.printed new.printed (made_totals it commands)
+          → differs ≡ run_differs it commands → IsDone (made_of [] svf it) old new differs
       line_done differs printed verdict =
-          record { leaves = left h.bytes commands; given = left_given h.bytes commands h.given h.found; files = (h.held, tt); printed = printed; verdict = verdict }
+          record {
+            leaves = left h.bytes commands;
+            given = left_given h.bytes commands h.given h.found;
+            files = (h.held, tt);
+            printed = printed;
+            verdict = verdict;
+          }

@@ -31,21 +31,48 @@ module _ (name : List ℕ) (it : SeenAccepted) (short : (within_limit it).gives 
 
   module _ (old new : Seen) where
     -- the file is cut off
-    pub test_part : HoldsPart old.files new.files name (test_text_of it) → new.printed ≡ old.printed → IsPartOf (mux_tested name it) old new
+    pub test_part : HoldsPart old.files new.files name (test_text_of it)
+        → new.printed ≡ old.printed → IsPartOf (mux_tested name it) old new
     test_part part silent =
-        inr (record { leaves = left; given = (tt, short, refl); files = inr (part, tt); printed = adds_none (test_report_of it) silent; in_order = inl silent })
+        inr (record {
+          leaves = left;
+          given = (tt, short, refl);
+          files = inr (part, tt);
+          printed = adds_none (test_report_of it) silent;
+          in_order = inl silent;
+        })
 
     module _ (whole : file_at new.files name ≡ option_map (λ _. Some (test_text_of it)) old.files) where
       -- the report is cut off
-      pub lines_part : AddsPart old.printed new.printed (test_report_of it) → IsPartOf (mux_tested name it) old new
+      pub lines_part : AddsPart old.printed new.printed (test_report_of it)
+          → IsPartOf (mux_tested name it) old new
       lines_part part =
-          inr (record { leaves = left; given = (tt, short, refl); files = inr (whole_is_part old.files new.files name (test_text_of it) whole, tt); printed = part; in_order = inr (whole, tt) })
+          inr (record {
+            leaves = left;
+            given = (tt, short, refl);
+            files = inr (
+              whole_is_part old.files
+                  new.files name (test_text_of it) whole,
+              tt,
+            );
+            printed = part;
+            in_order = inr (whole, tt);
+          })
 
-      pub test_done : Adds old.printed new.printed (test_report_of it) → IsDone (mux_tested name it) old new false
-      test_done printed = record { leaves = left; given = (tt, short, refl); files = (whole, tt); printed = printed; verdict = refl }
+      pub test_done : Adds old.printed new.printed (test_report_of it)
+          → IsDone (mux_tested name it) old new false
+      test_done printed = record {
+        leaves = left;
+        given = (tt, short, refl);
+        files =
+            (whole, tt);
+        printed = printed;
+        verdict = refl;
+      }
 
 -- too many scans are refused as the work refuses them
-pub refusal_stops : (name : List ℕ) (it : SeenAccepted) → (r : Refusal) → (within_limit it).refuses r → (mux_tested name it).refuses r
+pub refusal_stops : (name : List ℕ) (it : SeenAccepted) → (r : Refusal)
+    → (within_limit it).refuses r → (mux_tested name it).refuses r
 refusal_stops name it r refuses = inl refuses
 
 -- ---- the laws of mux tests, of what was accepted
@@ -54,17 +81,22 @@ module _ (it : SeenAccepted) (nested : IsNested it.network.net it.network.form) 
   abbrev pub testable : IsTestable it.network.net it.network.form
   testable = record { well_formed = nested.well_formed; describes = nested.describes; lawful = nested.lawful }
 
-  pub right : TestsAreQuiet → StuckAreFound → RowsAreReached → TestsAreReadAgain → IsDevice it.device → (within_limit it).gives tt → TestsRight it
+  pub right : TestsAreQuiet → StuckAreFound → RowsAreReached → TestsAreReadAgain → IsDevice it.device
+      → (within_limit it).gives tt → TestsRight it
   unfolding within_limit
   right quiet found reached again device short =
       record {
         read_again = again it.network.net it.network.form it.device testable device short;
         quiet = λ machines. quiet it.network.net it.network.form it.device machines testable device;
-        found = λ machines b seen. found it.network.net it.network.form it.device machines b testable device seen;
+        found = λ machines b seen. found it.network.net it.network.form
+            it.device machines b testable device seen;
         reached = reached it.network.net it.network.form testable;
       }
 
-  pub text_is : ScansMakeTheText → (scans : List SeenTestScan) → scans ≡ test_scans it.network.net it.network.form → preface it.device ++ scans_text it.network.net scans ≡ test_text_of it
+  pub text_is : ScansMakeTheText → (scans : List SeenTestScan)
+      → scans ≡ test_scans it.network.net it.network.form
+      → preface it.device ++ scans_text it.network.net scans ≡ test_text_of it
   unfolding test_text_of
   text_is make scans same =
-      ap (λ (ss : List SeenTestScan). preface it.device ++ scans_text it.network.net ss) same ∙ (make it.network.net it.network.form testable).text it.device
+      ap (λ (ss : List SeenTestScan). preface it.device ++ scans_text it.network.net ss) same
+      ∙ (make it.network.net it.network.form testable).text it.device

@@ -5,4 +5,5 @@ use Rattle.ij_io.specs.declared.sure_shelf.SureShelf.{SureShelf}
 use Rattle.ijtag_work.specs.Ends.{Views, views}
 
 abbrev pub in_memory : Views SureShelf (List ℕ) (List ℕ)
-in_memory = views (λ s. Some (sure_files_in s)) (λ s name. 0) (λ s name. 0) (λ s. Some s) (λ s. Some s) (λ s. 0) (λ s. Some s) (λ s. 0)
+in_memory = views (λ s. Some (sure_files_in s)) (λ s name. 0) (λ s name. 0) (λ s. Some s)
+    (λ s. Some s) (λ s. 0) (λ s. Some s) (λ s. 0)

@@ -24,9 +24,12 @@ fn put_line<O: Sink>(alloc: Global, it: &Accepted, out: &mut O) -> Result<Verdic
     requires usable { IsUsable it.now }
     requires commands { there it.now.commands ≡ true }
     requires procedure { there it.now.procedure ≡ true }
-    ensures printed { OnOk result (Adds (O.taken out.old) (O.taken out.new) (line_of (seen_accepted it.now))) }
-    ensures verdict { IfOk result (λ verdict. differing verdict ≡ says_no (verdict_of (seen_accepted it.now))) }
-    ensures part { OnErr result (AddsPart (O.taken out.old) (O.taken out.new) (line_of (seen_accepted it.now))) }
+    ensures printed { OnOk result
+        (Adds (O.taken out.old) (O.taken out.new) (line_of (seen_accepted it.now))) }
+    ensures verdict { IfOk result
+        (λ verdict. differing verdict ≡ says_no (verdict_of (seen_accepted it.now))) }
+    ensures part { OnErr result
+        (AddsPart (O.taken out.old) (O.taken out.new) (line_of (seen_accepted it.now))) }
     ensures cause { HasCause (O.faults out.old) (O.faults out.new) result StoreFault.Failed }
 {
     bit_steps_are_of_the_network();
@@ -54,7 +57,8 @@ fn put_line<O: Sink>(alloc: Global, it: &Accepted, out: &mut O) -> Result<Verdic
 pub fn a_yes_does_as_meant(it: &Accepted, commands: &Commands)
     requires usable { IsUsable it.now }
     requires procedure { there it.now.procedure ≡ true }
-    ensures { says_no (audit_commands it.now.network.net it.now.device (seen_accepted it.now).steps commands.now) ≡ false
+    ensures { says_no
+        (audit_commands it.now.network.net it.now.device (seen_accepted it.now).steps commands.now) ≡ false
         → DoAsMeant (seen_accepted it.now) commands.now }
 {
     audits_law();

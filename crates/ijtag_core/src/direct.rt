@@ -20,9 +20,11 @@ fn put_lines<O: Sink>(alloc: Global, it: &Accepted, out: &mut O) -> Result<Verdi
     requires usable { IsUsable it.now }
     requires models { there it.now.models ≡ true }
     requires procedure { there it.now.procedure ≡ true }
-    ensures printed { OnOk result (Adds (O.taken out.old) (O.taken out.new) (meaning_of (seen_accepted it.now))) }
+    ensures printed { OnOk result
+        (Adds (O.taken out.old) (O.taken out.new) (meaning_of (seen_accepted it.now))) }
     ensures verdict { IfOk result (λ verdict. differing verdict ≡ reads_differ (seen_accepted it.now)) }
-    ensures part { OnErr result (AddsPart (O.taken out.old) (O.taken out.new) (meaning_of (seen_accepted it.now))) }
+    ensures part { OnErr result
+        (AddsPart (O.taken out.old) (O.taken out.new) (meaning_of (seen_accepted it.now))) }
     ensures cause { HasCause (O.faults out.old) (O.faults out.new) result StoreFault.Failed }
 {
     bit_steps_are_of_the_network();

@@ -9,11 +9,13 @@ ghost use Rattle.ijtag_work.specs.Inputs.{loads_of, texts_of};
 ghost use Rattle.ijtag_work.specs.Late.{IsLateStop, IsPartOf};
 ghost use Rattle.ijtag_work.specs.Loads.{loaded, names_of};
 ghost use Rattle.ijtag_work.specs.Promises.{AcceptedWith};
-ghost use Rattle.ijtag_work.specs.Runs.{AreFirstWritten, IsDone, IsPartDone, IsStop, OnlyTheseChange, OnlyTheseRise, counts, seen};
+ghost use Rattle.ijtag_work.specs.Runs.{AreFirstWritten, IsDone, IsPartDone, IsStop, OnlyTheseChange};
+ghost use Rattle.ijtag_work.specs.Runs.{OnlyTheseRise, counts, seen};
 ghost use Rattle.ijtag_work.specs.Seen.{seen_stop, differing};
 ghost use Rattle.ijtag_work.specs.Stops.{IsEarly};
 ghost use Rattle.ijtag_work.specs.Task.{Row, task_of, work};
-ghost use Rattle.ijtag_work.specs.Using.{AreShortTexts, CanUse, needs_in, needs_of, seen_accepted, seen_named};
+ghost use Rattle.ijtag_work.specs.Using.{AreShortTexts, CanUse, needs_in, needs_of, seen_accepted};
+ghost use Rattle.ijtag_work.specs.Using.{seen_named};
 
 use ij_io::{Shelf, Sink};
 use ijtag_work::{Accepted, Stop, Texts, Verdict, accept};
@@ -24,28 +26,34 @@ pub trait Effect {
     /// The command, as a row of the table of commands.
     ghost table_row: { Self → Row };
 
-    /// What is promised of what was accepted, by the files before the work and the contents of any file after it, where a run ends
-    /// with this verdict.
-    ghost promise: { Self → Option Files → (List ℕ → Option (Option (List ℕ))) → SeenAccepted → Bool → Type 0 } = { λ _ _ _ _ _. Unit {0} };
+    /// What is promised of what was accepted, by the files before the work and the contents of any file after
+    /// it, where a run ends with this verdict.
+    ghost promise: { Self → Option Files → (List ℕ → Option (Option (List ℕ))) → SeenAccepted
+        → Bool → Type 0 } = { λ _ _ _ _ _. Unit {0} };
 
-    /// Loads the files of its texts in their order, each once, and stops at the first that can't be loaded or is too long. No file
-    /// changes, and the counts of no other names.
+    /// Loads the files of its texts in their order, each once, and stops at the first that can't be loaded or
+    /// is too long. No file changes, and the counts of no other names.
     fn load_texts<'a, S: Shelf>(
         &'a self,
         alloc: Global,
         shelf: &mut S,
     ) -> Result<Vec<Vec<u8>>, Stop<'a>>
-        ensures follows { LoadsAndFollows (S.files shelf.old) (loads_of (table_row self.now).inputs) (S.load_faults shelf.old) (S.load_faults shelf.new)
-            (loaded (S.files shelf.old) (loads_of (table_row self.now).inputs)) (λ texts. seen_texts texts.items) result }
-        ensures texts { IfOk result (λ texts. AreTexts (length (loads_of (table_row self.now).inputs)) (seen_texts texts.items)) }
+        ensures follows { LoadsAndFollows (S.files shelf.old) (loads_of (table_row self.now).inputs)
+            (S.load_faults shelf.old) (S.load_faults shelf.new)
+            (loaded (S.files shelf.old) (loads_of (table_row self.now).inputs))
+            (λ texts. seen_texts texts.items) result }
+        ensures texts { IfOk result
+            (λ texts. AreTexts (length (loads_of (table_row self.now).inputs)) (seen_texts texts.items)) }
         ensures files { S.files shelf.new ≡ S.files shelf.old }
-        ensures others { OnlyTheseRise (names_of (loads_of (table_row self.now).inputs)) (S.load_faults shelf.old) (S.load_faults shelf.new) }
+        ensures others { OnlyTheseRise (names_of (loads_of (table_row self.now).inputs))
+            (S.load_faults shelf.old) (S.load_faults shelf.new) }
         ensures stores { SameCounts (S.store_faults shelf.old) (S.store_faults shelf.new) };
 
     /// The texts by what they are, of those that were loaded.
     fn texts_in<'t>(&'t self, loaded: &'t [Vec<u8>]) -> Texts<'t>
         requires { AreTexts (length (loads_of (table_row self.now).inputs)) (seen_texts loaded.now) }
-        ensures texts { texts_of (table_row self.now).inputs (seen_texts loaded.now) ≡ Some (seen_named result) }
+        ensures texts { texts_of (table_row self.now).inputs (seen_texts loaded.now)
+            ≡ Some (seen_named result) }
         ensures short { AreShortTexts (seen_named result) }
         ensures needs { needs_of (seen_named result) ≡ needs_in (table_row self.now).inputs };
 
@@ -63,18 +71,24 @@ pub trait Effect {
     ) -> Result<Verdict, Stop<'a>>
         requires { CanUse (needs_in (table_row self.now).inputs) it.now }
         ensures done { IfOk result (λ verdict. IsDone ((table_row self.now).leaves (seen_accepted it.now))
-            (seen S.files O.taken shelf.old out.old) (seen S.files O.taken shelf.new out.new) (differing verdict)) }
-        ensures promise { IfOk result (λ verdict. promise self.now (S.files shelf.old) (file_at (S.files shelf.new)) (seen_accepted it.now) (differing verdict)) }
-        ensures stop { IfErr result (λ stop. IsLateStop ((table_row self.now).leaves (seen_accepted it.now)) (task_of (table_row self.now))
-            (counts S.load_faults S.store_faults O.faults shelf.old shelf.new out.old out.new) (seen_stop stop)) }
-        ensures early { IfErr result (λ stop. IsEarly (seen_stop stop) → (S.files shelf.new ≡ S.files shelf.old) × (out.new ≡ out.old)) }
+            (seen S.files O.taken shelf.old out.old)
+            (seen S.files O.taken shelf.new out.new) (differing verdict)) }
+        ensures promise { IfOk result (λ verdict. promise self.now (S.files shelf.old)
+            (file_at (S.files shelf.new)) (seen_accepted it.now) (differing verdict)) }
+        ensures stop { IfErr result (λ stop. IsLateStop
+            ((table_row self.now).leaves (seen_accepted it.now)) (task_of (table_row self.now))
+            (counts S.load_faults S.store_faults O.faults shelf.old shelf.new out.old out.new)
+            (seen_stop stop)) }
+        ensures early { IfErr result (λ stop. IsEarly (seen_stop stop)
+            → (S.files shelf.new ≡ S.files shelf.old) × (out.new ≡ out.old)) }
         ensures part { OnErr result (IsPartOf ((table_row self.now).leaves (seen_accepted it.now))
             (seen S.files O.taken shelf.old out.old) (seen S.files O.taken shelf.new out.new)) }
         ensures files { OnlyTheseChange (table_row self.now).writes (S.files shelf.old) (S.files shelf.new) }
         ensures out { OnFalse (table_row self.now).prints (out.new ≡ out.old) }
         ensures faults { O.faults out.old ≤ O.faults out.new }
         ensures loads { SameCounts (S.load_faults shelf.old) (S.load_faults shelf.new) }
-        ensures stores { OnlyTheseRise (table_row self.now).writes (S.store_faults shelf.old) (S.store_faults shelf.new) };
+        ensures stores { OnlyTheseRise (table_row self.now).writes
+            (S.store_faults shelf.old) (S.store_faults shelf.new) };
 }
 
 /// Does a command's effect, and hands on what it printed.
@@ -87,18 +101,24 @@ fn act_and_flush<'a, E: Effect, S: Shelf, O: Sink>(
 ) -> Result<Verdict, Stop<'a>>
     requires { CanUse (needs_in (E.table_row effect.now).inputs) it.now }
     ensures done { IfOk result (λ verdict. IsDone ((E.table_row effect.now).leaves (seen_accepted it.now))
-        (seen S.files O.taken shelf.old out.old) (seen S.files O.taken shelf.new out.new) (differing verdict)) }
-    ensures promise { IfOk result (λ verdict. E.promise effect.now (S.files shelf.old) (file_at (S.files shelf.new)) (seen_accepted it.now) (differing verdict)) }
-    ensures handed { OnOk result (OnTrue (E.table_row effect.now).prints (O.handed out.new ≡ O.taken out.new)) }
-    ensures stop { IfErr result (λ stop. IsLateStop ((E.table_row effect.now).leaves (seen_accepted it.now)) (task_of (E.table_row effect.now))
+        (seen S.files O.taken shelf.old out.old)
+        (seen S.files O.taken shelf.new out.new) (differing verdict)) }
+    ensures promise { IfOk result (λ verdict. E.promise effect.now (S.files shelf.old)
+        (file_at (S.files shelf.new)) (seen_accepted it.now) (differing verdict)) }
+    ensures handed { OnOk result
+        (OnTrue (E.table_row effect.now).prints (O.handed out.new ≡ O.taken out.new)) }
+    ensures stop { IfErr result (λ stop. IsLateStop
+        ((E.table_row effect.now).leaves (seen_accepted it.now)) (task_of (E.table_row effect.now))
         (counts S.load_faults S.store_faults O.faults shelf.old shelf.new out.old out.new) (seen_stop stop)) }
-    ensures early { IfErr result (λ stop. IsEarly (seen_stop stop) → (S.files shelf.new ≡ S.files shelf.old) × (out.new ≡ out.old)) }
+    ensures early { IfErr result (λ stop. IsEarly (seen_stop stop)
+        → (S.files shelf.new ≡ S.files shelf.old) × (out.new ≡ out.old)) }
     ensures part { OnErr result (IsPartOf ((E.table_row effect.now).leaves (seen_accepted it.now))
         (seen S.files O.taken shelf.old out.old) (seen S.files O.taken shelf.new out.new)) }
     ensures files { OnlyTheseChange (E.table_row effect.now).writes (S.files shelf.old) (S.files shelf.new) }
     ensures out { OnFalse (E.table_row effect.now).prints (out.new ≡ out.old) }
     ensures loads { SameCounts (S.load_faults shelf.old) (S.load_faults shelf.new) }
-    ensures stores { OnlyTheseRise (E.table_row effect.now).writes (S.store_faults shelf.old) (S.store_faults shelf.new) }
+    ensures stores { OnlyTheseRise (E.table_row effect.now).writes
+        (S.store_faults shelf.old) (S.store_faults shelf.new) }
 {
     let verdict = effect.act(alloc, it, shelf, out)?;
     if !effect.prints() {
@@ -110,29 +130,36 @@ fn act_and_flush<'a, E: Effect, S: Shelf, O: Sink>(
     }
 }
 
-/// A run of a command that accepts texts: its files are loaded in their order, their texts are accepted, and only then it does what
-/// it does; what was printed is handed on.
+/// A run of a command that accepts texts: its files are loaded in their order, their texts are accepted, and
+/// only then it does what it does; what was printed is handed on.
 pub fn accept_and_act<'a, E: Effect, S: Shelf, O: Sink>(
     alloc: Global,
     effect: &'a E,
     shelf: &mut S,
     out: &mut O,
 ) -> Result<Verdict, Stop<'a>>
-    ensures done { IfOk result (λ verdict. IsDone (work (S.files shelf.old) (task_of (E.table_row effect.now)))
-        (seen S.files O.taken shelf.old out.old) (seen S.files O.taken shelf.new out.new) (differing verdict)) }
-    ensures promise { IfOk result (λ verdict. AcceptedWith (E.table_row effect.now) (S.files shelf.old) (λ it. E.promise effect.now (S.files shelf.old) (file_at (S.files shelf.new)) it (differing verdict))) }
-    ensures handed { OnOk result (OnTrue (E.table_row effect.now).prints (O.handed out.new ≡ O.taken out.new)) }
+    ensures done { IfOk result
+        (λ verdict. IsDone (work (S.files shelf.old) (task_of (E.table_row effect.now)))
+        (seen S.files O.taken shelf.old out.old)
+        (seen S.files O.taken shelf.new out.new) (differing verdict)) }
+    ensures promise { IfOk result (λ verdict. AcceptedWith (E.table_row effect.now) (S.files shelf.old) (λ it.
+        E.promise effect.now (S.files shelf.old) (file_at (S.files shelf.new)) it (differing verdict))) }
+    ensures handed { OnOk result
+        (OnTrue (E.table_row effect.now).prints (O.handed out.new ≡ O.taken out.new)) }
     ensures stop { IfErr result (λ stop. IsStop (S.files shelf.old) (task_of (E.table_row effect.now))
         (counts S.load_faults S.store_faults O.faults shelf.old shelf.new out.old out.new) (seen_stop stop)) }
     ensures early { IfErr result (λ stop. IsEarly (seen_stop stop)
-        → AreFirstWritten (task_of (E.table_row effect.now)).begins (task_of (E.table_row effect.now)).first_writes (S.files shelf.old) (S.files shelf.new)) }
+        → AreFirstWritten (task_of (E.table_row effect.now)).begins
+        (task_of (E.table_row effect.now)).first_writes (S.files shelf.old) (S.files shelf.new)) }
     ensures silent { IfErr result (λ stop. IsEarly (seen_stop stop) → out.new ≡ out.old) }
     ensures part { OnErr result (IsPartDone (S.files shelf.old) (task_of (E.table_row effect.now))
         (seen S.files O.taken shelf.old out.old) (seen S.files O.taken shelf.new out.new)) }
     ensures files { OnlyTheseChange (E.table_row effect.now).writes (S.files shelf.old) (S.files shelf.new) }
     ensures out { OnFalse (E.table_row effect.now).prints (out.new ≡ out.old) }
-    ensures loads { OnlyTheseRise (names_of (loads_of (E.table_row effect.now).inputs)) (S.load_faults shelf.old) (S.load_faults shelf.new) }
-    ensures stores { OnlyTheseRise (E.table_row effect.now).writes (S.store_faults shelf.old) (S.store_faults shelf.new) }
+    ensures loads { OnlyTheseRise (names_of (loads_of (E.table_row effect.now).inputs))
+        (S.load_faults shelf.old) (S.load_faults shelf.new) }
+    ensures stores { OnlyTheseRise (E.table_row effect.now).writes
+        (S.store_faults shelf.old) (S.store_faults shelf.new) }
 {
     let texts = effect.load_texts(alloc, shelf)?;
     let it = accept(alloc, &effect.texts_in(&texts))?;

@@ -17,8 +17,8 @@ use ij_io::{SureShelf, SureSink};
 use ijtag_work::Status;
 use std::alloc::Global;
 
-/// Runs the program over files and streams in memory. Nothing fails there but for want of memory, so what is accepted
-/// is done. A file that isn't there is read as an empty one.
+/// Runs the program over files and streams in memory. Nothing fails there but for want of memory, so what is
+/// accepted is done. A file that isn't there is read as an empty one.
 pub fn ijtag_in_memory(
     alloc: Global,
     words: &Vec<String>,
@@ -26,12 +26,16 @@ pub fn ijtag_in_memory(
     out: &mut SureSink,
     err: &mut SureSink,
 ) -> Status
-    ensures headline { IfDone result (λ differs. LeavesRightSvf (Some (sure_files_in shelf.old)) (λ name. Some (sure_files_in shelf.new name)) differs (command_in words.now.items)) }
-    ensures run { IsRun in_memory task usage_line (command_in words.now.items) (world shelf.old out.old err.old) (world shelf.new out.new err.new) result }
+    ensures headline { IfDone result (λ differs. LeavesRightSvf (Some (sure_files_in shelf.old))
+        (λ name. Some (sure_files_in shelf.new name)) differs (command_in words.now.items)) }
+    ensures run { IsRun in_memory task usage_line (command_in words.now.items)
+        (world shelf.old out.old err.old) (world shelf.new out.new err.new) result }
     ensures complete { IfSome (command_in words.now.items) (λ command. (leaves : Leaves)
-        → (work (Some (sure_files_in shelf.old)) (task command)).gives leaves → IsOrMemory result (status_if leaves.differs)) }
+        → (work (Some (sure_files_in shelf.old)) (task command)).gives leaves
+        → IsOrMemory result (status_if leaves.differs)) }
     ensures refuses { IfSome (command_in words.now.items) (λ command. (refusal : Refusal)
-        → (work (Some (sure_files_in shelf.old)) (task command)).refuses refusal → IsOrMemory result Status.Refused) }
+        → (work (Some (sure_files_in shelf.old)) (task command)).refuses refusal
+        → IsOrMemory result Status.Refused) }
 {
     ijtag(alloc, words, shelf, out, err)
 }

@@ -1,9 +1,11 @@
-//! The program as a function of its words, over any files and streams: `compile` a procedure to SVF, `play` an SVF file,
-//! `run` both, `direct` what a procedure means, `make` a design that is run, `migrate` a file of tables, `audit` an SVF
-//! file for a procedure, `muxtest` a network that may have a multiplexer that is stuck.
+//! The program as a function of its words, over any files and streams: `compile` a procedure to SVF, `play`
+//! an SVF file, `run` both, `direct` what a procedure means, `make` a design that is run, `migrate` a file of
+//! tables, `audit` an SVF file for a procedure, `muxtest` a network that may have a multiplexer that is
+//! stuck.
 //!
-//! A command that accepts texts is an [`Effect`], and [`accept_and_act`] is its run; a program is a table of [`Command`]s, and
-//! [`run_program`] says how a run of any of them ends. `specs/Order` of `ijtag_work` has the table of this program.
+//! A command that accepts texts is an [`Effect`], and [`accept_and_act`] is its run; a program is a table of
+//! [`Command`]s, and [`run_program`] says how a run of any of them ends. `specs/Order` of `ijtag_work` has
+//! the table of this program.
 #![tactic(auto)]
 
 mod audit;

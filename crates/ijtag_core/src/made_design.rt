@@ -22,7 +22,8 @@ const PROCEDURE: &str = "p";
 /// The four texts of the design, of 1 to 64 instruments.
 #[tactic(auto, unfolding(ijtag_work::specs::Order::made_files))]
 pub(crate) fn make_design(alloc: Global, words: &MakeWords<'_>) -> Result<Made, StageFault>
-    ensures { Follows (made_files (seen_make words.now)) (λ made. written_as (made_names words.now.stem.now) (texts_of made)) result }
+    ensures { Follows (made_files (seen_make words.now))
+        (λ made. written_as (made_names words.now.stem.now) (texts_of made)) result }
 {
     match make(alloc, words.seed, words.size) {
         Ok(made) => Ok(made),
@@ -40,7 +41,8 @@ pub(crate) fn accept_design<'t>(
     stem: &str,
     made: &'t Made,
 ) -> Result<Accepted<'t>, StageFault>
-    ensures follows { Follows (accepted_made (written_as (made_names stem.now) (texts_of made.now))) seen_accepted result }
+    ensures follows { Follows
+        (accepted_made (written_as (made_names stem.now) (texts_of made.now))) seen_accepted result }
     ensures can { IfOk result (CanUse (record { tables = true; svf = false; pdl = true })) }
 {
     take_each(alloc, &files_of(stem, made))?;

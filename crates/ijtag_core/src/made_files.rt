@@ -9,7 +9,8 @@ ghost use Rattle.ijtag_work.specs.Command.{made_names};
 ghost use Rattle.ijtag_work.specs.Order.{taken, taken_one, written_as};
 ghost use Rattle.ijtag_work.specs.Runs.{AllHold, HoldInTurn, OnlyTheseRise};
 ghost use Rattle.ijtag_work.specs.Seen.{seen_stop};
-ghost use Rattle.ijtag_core.specs.Files.{AreApart, IsWriteStopOf, OthersAllStay, file_names, seen_file, text_of, texts_of};
+ghost use Rattle.ijtag_core.specs.Files.{AreApart, IsWriteStopOf, OthersAllStay, file_names, seen_file};
+ghost use Rattle.ijtag_core.specs.Files.{text_of, texts_of};
 
 use design_maker::Made;
 use ij_io::{Shelf, StoreFault};
@@ -69,12 +70,16 @@ fn write_one<'a, S: Shelf>(
     file: &MadeFile<'a, '_>,
     shelf: &mut S,
 ) -> Result<(), Stop<'a>>
-    ensures whole { OnOk result (file_at (S.files shelf.new) (seen_file file.now).name ≡ option_map (λ _. Some (seen_file file.now).bytes) (S.files shelf.old)) }
-    ensures part { OnErr result (HoldsPart (S.files shelf.old) (S.files shelf.new) (seen_file file.now).name (seen_file file.now).bytes) }
+    ensures whole { OnOk result (file_at (S.files shelf.new) (seen_file file.now).name
+        ≡ option_map (λ _. Some (seen_file file.now).bytes) (S.files shelf.old)) }
+    ensures part { OnErr result (HoldsPart (S.files shelf.old) (S.files shelf.new)
+        (seen_file file.now).name (seen_file file.now).bytes) }
     ensures others { OthersStay (S.files shelf.old) (S.files shelf.new) (seen_file file.now).name }
-    ensures stop { IfErr result (λ stop. IsWriteStopOf ((seen_file file.now).name ∷ []) (S.store_faults shelf.old) (S.store_faults shelf.new) (seen_stop stop)) }
+    ensures stop { IfErr result (λ stop. IsWriteStopOf ((seen_file file.now).name ∷ [])
+        (S.store_faults shelf.old) (S.store_faults shelf.new) (seen_stop stop)) }
     ensures loads { SameCounts (S.load_faults shelf.old) (S.load_faults shelf.new) }
-    ensures stores { OnlyTheseRise ((seen_file file.now).name ∷ []) (S.store_faults shelf.old) (S.store_faults shelf.new) }
+    ensures stores { OnlyTheseRise ((seen_file file.now).name ∷ [])
+        (S.store_faults shelf.old) (S.store_faults shelf.new) }
 {
     let name = file.name.text(alloc)?;
     match write_file(name.as_str(), file.text, shelf) {
@@ -92,11 +97,15 @@ pub(crate) fn write_each<'a, S: Shelf>(
 ) -> Result<(), Stop<'a>>
     requires { AreApart (map seen_file files.now) }
     ensures whole { OnOk result (AllHold (map seen_file files.now) (S.files shelf.old) (S.files shelf.new)) }
-    ensures part { OnErr result (HoldInTurn (map seen_file files.now) (S.files shelf.old) (S.files shelf.new)) }
-    ensures others { OthersAllStay (file_names (map seen_file files.now)) (S.files shelf.old) (S.files shelf.new) }
-    ensures stop { IfErr result (λ stop. IsWriteStopOf (file_names (map seen_file files.now)) (S.store_faults shelf.old) (S.store_faults shelf.new) (seen_stop stop)) }
+    ensures part { OnErr result
+        (HoldInTurn (map seen_file files.now) (S.files shelf.old) (S.files shelf.new)) }
+    ensures others { OthersAllStay (file_names (map seen_file files.now))
+        (S.files shelf.old) (S.files shelf.new) }
+    ensures stop { IfErr result (λ stop. IsWriteStopOf (file_names (map seen_file files.now))
+        (S.store_faults shelf.old) (S.store_faults shelf.new) (seen_stop stop)) }
     ensures loads { SameCounts (S.load_faults shelf.old) (S.load_faults shelf.new) }
-    ensures stores { OnlyTheseRise (file_names (map seen_file files.now)) (S.store_faults shelf.old) (S.store_faults shelf.new) }
+    ensures stores { OnlyTheseRise (file_names (map seen_file files.now))
+        (S.store_faults shelf.old) (S.store_faults shelf.new) }
 {
     match files {
         [] => Ok(()),

@@ -20,8 +20,8 @@ use ijtag_work::{Accepted, MadeName, Stop, Verdict};
 use std::alloc::Global;
 use svf_writer::Commands;
 
-/// Writes the SVF file of a made design under its name, and gives the commands that a reader finds in its text. After a refusal the file is
-/// as before, or holds some first bytes.
+/// Writes the SVF file of a made design under its name, and gives the commands that a reader finds in its
+/// text. After a refusal the file is as before, or holds some first bytes.
 fn write_svf<'a, S: Shelf>(
     alloc: Global,
     it: &Accepted,
@@ -31,14 +31,18 @@ fn write_svf<'a, S: Shelf>(
     requires usable { IsUsable it.now }
     requires models { there it.now.models ≡ true }
     requires procedure { there it.now.procedure ≡ true }
-    ensures whole { IfOk result (HasCommands (written_text (seen_accepted it.now)) (S.files shelf.old) (S.files shelf.new) (seen_made_name name.entry)) }
+    ensures whole { IfOk result (HasCommands (written_text (seen_accepted it.now)) (S.files shelf.old)
+        (S.files shelf.new) (seen_made_name name.entry)) }
     ensures clocks { IfOk result (λ commands. length (pins InReset 0 commands) ≤ 1000000000) }
     ensures scans { IfOk result (λ commands. scans_in commands ≤ 1000000000) }
-    ensures part { OnErr result ((S.files shelf.new ≡ S.files shelf.old) ⊎ IsPartFiled (written_text (seen_accepted it.now)) (S.files shelf.old) (S.files shelf.new) (seen_made_name name.entry)) }
-    ensures stop { IfErr result (λ stop. IsSvfStop (written_text (seen_accepted it.now)) (seen_made_name name.entry) (S.store_faults shelf.old) (S.store_faults shelf.new) (seen_stop stop)) }
+    ensures part { OnErr result ((S.files shelf.new ≡ S.files shelf.old) ⊎ IsPartFiled (written_text
+        (seen_accepted it.now)) (S.files shelf.old) (S.files shelf.new) (seen_made_name name.entry)) }
+    ensures stop { IfErr result (λ stop. IsSvfStop (written_text (seen_accepted it.now))
+        (seen_made_name name.entry) (S.store_faults shelf.old) (S.store_faults shelf.new) (seen_stop stop)) }
     ensures others { OthersStay (S.files shelf.old) (S.files shelf.new) (seen_made_name name.entry) }
     ensures loads { SameCounts (S.load_faults shelf.old) (S.load_faults shelf.new) }
-    ensures stores { OnlyTheseRise (seen_made_name name.entry ∷ []) (S.store_faults shelf.old) (S.store_faults shelf.new) }
+    ensures stores { OnlyTheseRise (seen_made_name name.entry ∷ [])
+        (S.store_faults shelf.old) (S.store_faults shelf.new) }
 {
     let text = name.text(alloc)?;
     match write_commands(alloc, it, text.as_str(), shelf) {
@@ -48,7 +52,8 @@ fn write_svf<'a, S: Shelf>(
     }
 }
 
-/// Writes the SVF file of an accepted procedure of a made design, plays the commands of its text and prints the line of totals.
+/// Writes the SVF file of an accepted procedure of a made design, plays the commands of its text and prints
+/// the line of totals.
 pub(crate) fn write_and_play<'a, S: Shelf, O: Sink>(
     alloc: Global,
     stem: &'a str,
@@ -60,15 +65,18 @@ pub(crate) fn write_and_play<'a, S: Shelf, O: Sink>(
     requires models { there it.now.models ≡ true }
     requires procedure { there it.now.procedure ≡ true }
     ensures done { IfOk result (λ verdict. IsDone (made_of [] (made_svf stem.now) (seen_accepted it.now))
-        (seen S.files O.taken shelf.old out.old) (seen S.files O.taken shelf.new out.new) (differing verdict)) }
+        (seen S.files O.taken shelf.old out.old)
+        (seen S.files O.taken shelf.new out.new) (differing verdict)) }
     ensures handed { OnOk result (O.handed out.new ≡ O.taken out.new) }
-    ensures stop { IfErr result (λ stop. IsPlayStop (made_of [] (made_svf stem.now) (seen_accepted it.now)) (made_svf stem.now)
+    ensures stop { IfErr result
+        (λ stop. IsPlayStop (made_of [] (made_svf stem.now) (seen_accepted it.now)) (made_svf stem.now)
         (counts S.load_faults S.store_faults O.faults shelf.old shelf.new out.old out.new) (seen_stop stop)) }
     ensures part { OnErr result (IsPartOf (made_of [] (made_svf stem.now) (seen_accepted it.now))
         (seen S.files O.taken shelf.old out.old) (seen S.files O.taken shelf.new out.new)) }
     ensures others { OthersStay (S.files shelf.old) (S.files shelf.new) (made_svf stem.now) }
     ensures loads { SameCounts (S.load_faults shelf.old) (S.load_faults shelf.new) }
-    ensures stores { OnlyTheseRise (made_svf stem.now ∷ []) (S.store_faults shelf.old) (S.store_faults shelf.new) }
+    ensures stores { OnlyTheseRise (made_svf stem.now ∷ [])
+        (S.store_faults shelf.old) (S.store_faults shelf.new) }
 {
     let name = MadeName {
         stem,

@@ -15,7 +15,8 @@ use ijtag_work::{Accepted, Verdict};
 use std::alloc::Global;
 use svf_writer::Commands;
 
-/// Plays the commands of a procedure's SVF on the bench and writes the line of totals. A refusal leaves a first part of it.
+/// Plays the commands of a procedure's SVF on the bench and writes the line of totals. A refusal leaves a
+/// first part of it.
 #[tactic(auto, unfolding(ijtag_work::specs::Order::made_totals))]
 fn put_line<O: Sink>(
     alloc: Global,
@@ -28,9 +29,12 @@ fn put_line<O: Sink>(
     requires procedure { there it.now.procedure ≡ true }
     requires clocks { length (pins InReset 0 commands.now) ≤ 1000000000 }
     requires scans { scans_in commands.now ≤ 1000000000 }
-    ensures printed { OnOk result (Adds (O.taken out.old) (O.taken out.new) (made_totals (seen_accepted it.now) commands.now)) }
-    ensures verdict { IfOk result (λ verdict. differing verdict ≡ run_differs (seen_accepted it.now) commands.now) }
-    ensures part { OnErr result (AddsPart (O.taken out.old) (O.taken out.new) (made_totals (seen_accepted it.now) commands.now)) }
+    ensures printed { OnOk result
+        (Adds (O.taken out.old) (O.taken out.new) (made_totals (seen_accepted it.now) commands.now)) }
+    ensures verdict { IfOk result
+        (λ verdict. differing verdict ≡ run_differs (seen_accepted it.now) commands.now) }
+    ensures part { OnErr result
+        (AddsPart (O.taken out.old) (O.taken out.new) (made_totals (seen_accepted it.now) commands.now)) }
     ensures cause { HasCause (O.faults out.old) (O.faults out.new) result StoreFault.Failed }
 {
     let groups = round_count(alloc, it)?;
@@ -59,10 +63,13 @@ pub(crate) fn put_report<O: Sink>(
     requires procedure { there it.now.procedure ≡ true }
     requires clocks { length (pins InReset 0 commands.now) ≤ 1000000000 }
     requires scans { scans_in commands.now ≤ 1000000000 }
-    ensures printed { OnOk result (Adds (O.taken out.old) (O.taken out.new) (made_totals (seen_accepted it.now) commands.now)) }
-    ensures verdict { IfOk result (λ verdict. differing verdict ≡ run_differs (seen_accepted it.now) commands.now) }
+    ensures printed { OnOk result
+        (Adds (O.taken out.old) (O.taken out.new) (made_totals (seen_accepted it.now) commands.now)) }
+    ensures verdict { IfOk result
+        (λ verdict. differing verdict ≡ run_differs (seen_accepted it.now) commands.now) }
     ensures handed { OnOk result (O.handed out.new ≡ O.taken out.new) }
-    ensures part { OnErr result (AddsPart (O.taken out.old) (O.taken out.new) (made_totals (seen_accepted it.now) commands.now)) }
+    ensures part { OnErr result
+        (AddsPart (O.taken out.old) (O.taken out.new) (made_totals (seen_accepted it.now) commands.now)) }
     ensures cause { HasCause (O.faults out.old) (O.faults out.new) result StoreFault.Failed }
 {
     let verdict = put_line(alloc, it, commands, out)?;

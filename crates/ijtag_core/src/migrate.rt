@@ -8,7 +8,8 @@ ghost use Rattle.ijtag_stages.specs.Follows.{Follows};
 ghost use Rattle.ijtag_work.specs.Loads.{names_of};
 ghost use Rattle.ijtag_work.specs.Follows.{AreTexts, seen_texts};
 ghost use Rattle.ijtag_work.specs.Order.{migrate, read_tables_of};
-ghost use Rattle.ijtag_work.specs.Runs.{AreFirstWritten, IsDone, IsPartDone, IsStop, OnlyTheseChange, OnlyTheseRise, counts, seen};
+ghost use Rattle.ijtag_work.specs.Runs.{AreFirstWritten, IsDone, IsPartDone, IsStop, OnlyTheseChange};
+ghost use Rattle.ijtag_work.specs.Runs.{OnlyTheseRise, counts, seen};
 ghost use Rattle.ijtag_work.specs.Seen.{seen_stop, differing};
 ghost use Rattle.ijtag_work.specs.Stops.{IsEarly};
 ghost use Rattle.ijtag_work.specs.Task.{work};
@@ -44,25 +45,32 @@ fn make_text(alloc: Global, tables: &List<Table>) -> Result<SureSink, OutOfMemor
     }
 }
 
-/// Loads the tables, accepts them, makes their text of version 2, and only then begins the file. It prints nothing.
+/// Loads the tables, accepts them, makes their text of version 2, and only then begins the file. It prints
+/// nothing.
 pub(crate) fn migrate<'a, S: Shelf, O: Sink>(
     alloc: Global,
     words: &MigrateWords<'a>,
     shelf: &mut S,
     _out: &mut O,
 ) -> Result<Verdict, Stop<'a>>
-    ensures done { IfOk result (λ verdict. IsDone (work (S.files shelf.old) (migrate (seen_migrate words.now)))
-        (seen S.files O.taken shelf.old _out.old) (seen S.files O.taken shelf.new _out.new) (differing verdict)) }
+    ensures done { IfOk result
+        (λ verdict. IsDone (work (S.files shelf.old) (migrate (seen_migrate words.now)))
+        (seen S.files O.taken shelf.old _out.old)
+        (seen S.files O.taken shelf.new _out.new) (differing verdict)) }
     ensures stop { IfErr result (λ stop. IsStop (S.files shelf.old) (migrate (seen_migrate words.now))
-        (counts S.load_faults S.store_faults O.faults shelf.old shelf.new _out.old _out.new) (seen_stop stop)) }
+        (counts S.load_faults S.store_faults O.faults shelf.old shelf.new _out.old _out.new)
+        (seen_stop stop)) }
     ensures early { IfErr result (λ stop. IsEarly (seen_stop stop)
-        → AreFirstWritten (migrate (seen_migrate words.now)).begins (migrate (seen_migrate words.now)).first_writes (S.files shelf.old) (S.files shelf.new)) }
+        → AreFirstWritten (migrate (seen_migrate words.now)).begins
+        (migrate (seen_migrate words.now)).first_writes (S.files shelf.old) (S.files shelf.new)) }
     ensures part { OnErr result (IsPartDone (S.files shelf.old) (migrate (seen_migrate words.now))
         (seen S.files O.taken shelf.old _out.old) (seen S.files O.taken shelf.new _out.new)) }
     ensures files { OnlyTheseChange (words.now.written.now ∷ []) (S.files shelf.old) (S.files shelf.new) }
     ensures out { _out.new ≡ _out.old }
-    ensures loads { OnlyTheseRise (names_of (migrate (seen_migrate words.now)).loads) (S.load_faults shelf.old) (S.load_faults shelf.new) }
-    ensures stores { OnlyTheseRise (words.now.written.now ∷ []) (S.store_faults shelf.old) (S.store_faults shelf.new) }
+    ensures loads { OnlyTheseRise (names_of (migrate (seen_migrate words.now)).loads)
+        (S.load_faults shelf.old) (S.load_faults shelf.new) }
+    ensures stores { OnlyTheseRise (words.now.written.now ∷ [])
+        (S.store_faults shelf.old) (S.store_faults shelf.new) }
 {
     let texts = load_all(alloc, &words.loads(), shelf)?;
     let tables = accept(alloc, &texts)?;

@@ -55,10 +55,13 @@ fn write_test<'n, S: Shelf>(
 ) -> Result<(), StoreFault>
     requires usable { IsUsable it.now }
     requires planned { IsTestOf (seen_accepted it.now) test.old }
-    ensures whole { OnOk result (file_at (S.files shelf.new) name.now ≡ option_map (λ _. Some (test_text_of (seen_accepted it.now))) (S.files shelf.old)) }
-    ensures part { OnErr result (HoldsPart (S.files shelf.old) (S.files shelf.new) name.now (test_text_of (seen_accepted it.now))) }
+    ensures whole { OnOk result (file_at (S.files shelf.new) name.now
+        ≡ option_map (λ _. Some (test_text_of (seen_accepted it.now))) (S.files shelf.old)) }
+    ensures part { OnErr result
+        (HoldsPart (S.files shelf.old) (S.files shelf.new) name.now (test_text_of (seen_accepted it.now))) }
     ensures others { OthersStay (S.files shelf.old) (S.files shelf.new) name.now }
-    ensures cause { HasCauseAt name.now (S.store_faults shelf.old) (S.store_faults shelf.new) result StoreFault.Failed }
+    ensures cause { HasCauseAt name.now (S.store_faults shelf.old)
+        (S.store_faults shelf.new) result StoreFault.Failed }
     ensures loads { SameCounts (S.load_faults shelf.old) (S.load_faults shelf.new) }
     ensures unseen { test.new.unseen ≡ test.old.unseen }
     ensures scan_count { test.new.scan_count ≡ test.old.scan_count }
@@ -73,15 +76,18 @@ fn write_test<'n, S: Shelf>(
 fn print_test<'n, O: Sink>(it: &Accepted, test: &MuxTest<'n>, out: &mut O) -> Result<(), StoreFault>
     requires usable { IsUsable it.now }
     requires planned { IsReportOf (seen_accepted it.now) test.now }
-    ensures printed { OnOk result (Adds (O.taken out.old) (O.taken out.new) (test_report_of (seen_accepted it.now))) }
-    ensures part { OnErr result (AddsPart (O.taken out.old) (O.taken out.new) (test_report_of (seen_accepted it.now))) }
+    ensures printed { OnOk result
+        (Adds (O.taken out.old) (O.taken out.new) (test_report_of (seen_accepted it.now))) }
+    ensures part { OnErr result
+        (AddsPart (O.taken out.old) (O.taken out.new) (test_report_of (seen_accepted it.now))) }
     ensures cause { HasCause (O.faults out.old) (O.faults out.new) result StoreFault.Failed }
 {
     mux_tests_law();
     put_test_report(&it.network.net, test, out)
 }
 
-/// Writes the SVF file of the test of the network's multiplexers, and prints the rows that one may be stuck in unseen, and the counts.
+/// Writes the SVF file of the test of the network's multiplexers, and prints the rows that one may be stuck
+/// in unseen, and the counts.
 impl<'w> Effect for MuxTestWords<'w> {
     ghost table_row = { λ words. mux_test (seen_mux_test words) };
 

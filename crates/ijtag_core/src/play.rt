@@ -13,15 +13,19 @@ use ij_io::{Shelf, Sink, StoreFault};
 use ijtag_work::{Accepted, Inputs, PlayWords, Stop, Texts, Verdict};
 use std::alloc::Global;
 
-/// Plays commands on the bench of a network and writes the report. A refusal leaves a first part of the report.
+/// Plays commands on the bench of a network and writes the report. A refusal leaves a first part of the
+/// report.
 #[tactic(auto, unfolding(ijtag_work::specs::Order::report_of))]
 fn put_lines<O: Sink>(alloc: Global, it: &Accepted, out: &mut O) -> Result<Verdict, StoreFault>
     requires usable { IsUsable it.now }
     requires models { there it.now.models ≡ true }
     requires commands { there it.now.commands ≡ true }
-    ensures printed { OnOk result (Adds (O.taken out.old) (O.taken out.new) (report_of (seen_accepted it.now))) }
-    ensures verdict { IfOk result (λ verdict. differing verdict ≡ any_differs (differs_at (seen_accepted it.now) (seen_accepted it.now).commands)) }
-    ensures part { OnErr result (AddsPart (O.taken out.old) (O.taken out.new) (report_of (seen_accepted it.now))) }
+    ensures printed { OnOk result
+        (Adds (O.taken out.old) (O.taken out.new) (report_of (seen_accepted it.now))) }
+    ensures verdict { IfOk result (λ verdict. differing verdict
+        ≡ any_differs (differs_at (seen_accepted it.now) (seen_accepted it.now).commands)) }
+    ensures part { OnErr result
+        (AddsPart (O.taken out.old) (O.taken out.new) (report_of (seen_accepted it.now))) }
     ensures cause { HasCause (O.faults out.old) (O.faults out.new) result StoreFault.Failed }
 {
     let models = it.models();

@@ -26,14 +26,16 @@ use svf_writer::Commands;
 fn can_be_run(it: &Accepted, procedure: &Procedure)
     requires usable { IsUsable it.now }
     requires ends { ComesToItsEnd it.now.network procedure.now }
-    ensures { CanRetarget it.now.network.net it.now.network.form (bit_steps (seen_procs procedure.now.procs) it.now.network.net it.now.network.form procedure.now.name.items) }
+    ensures { CanRetarget it.now.network.net it.now.network.form (bit_steps
+        (seen_procs procedure.now.procs) it.now.network.net it.now.network.form procedure.now.name.items) }
 {
     bit_steps_are_of_the_network();
     bit_steps_are_few();
     procedures_are_plannable();
 }
 
-/// Plays the commands of a procedure's SVF on the bench and writes the report, which names iReads. A refusal leaves a first part of the report.
+/// Plays the commands of a procedure's SVF on the bench and writes the report, which names iReads. A refusal
+/// leaves a first part of the report.
 #[tactic(auto, unfolding(ijtag_work::specs::Order::run_report))]
 fn put_lines<O: Sink>(
     alloc: Global,
@@ -46,9 +48,12 @@ fn put_lines<O: Sink>(
     requires procedure { there it.now.procedure ≡ true }
     requires clocks { length (pins InReset 0 commands.now) ≤ 1000000000 }
     requires scans { scans_in commands.now ≤ 1000000000 }
-    ensures printed { OnOk result ((text : List ℕ) → (run_report (seen_accepted it.now) commands.now).gives text → Adds (O.taken out.old) (O.taken out.new) text) }
-    ensures verdict { IfOk result (λ verdict. differing verdict ≡ run_differs (seen_accepted it.now) commands.now) }
-    ensures part { OnErr result ((text : List ℕ) → (run_report (seen_accepted it.now) commands.now).gives text → AddsPart (O.taken out.old) (O.taken out.new) text) }
+    ensures printed { OnOk result ((text : List ℕ) → (run_report (seen_accepted it.now) commands.now).gives
+        text → Adds (O.taken out.old) (O.taken out.new) text) }
+    ensures verdict { IfOk result
+        (λ verdict. differing verdict ≡ run_differs (seen_accepted it.now) commands.now) }
+    ensures part { OnErr result ((text : List ℕ) → (run_report (seen_accepted it.now) commands.now).gives text
+        → AddsPart (O.taken out.old) (O.taken out.new) text) }
     ensures cause { HasCause (O.faults out.old) (O.faults out.new) result StoreFault.Failed }
 {
     let models = it.models();
@@ -69,7 +74,8 @@ fn put_lines<O: Sink>(
     Ok(Verdict::of_count(differs))
 }
 
-/// Writes the SVF file, as a compile does, and then plays the commands of its text and prints the report, which names iReads.
+/// Writes the SVF file, as a compile does, and then plays the commands of its text and prints the report,
+/// which names iReads.
 impl<'w> Effect for RunWords<'w> {
     ghost table_row = { λ words. run (seen_run words) };
 

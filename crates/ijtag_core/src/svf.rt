@@ -49,8 +49,8 @@ pub fn make_svf(alloc: Global, it: &Accepted) -> Result<SureSink, OutOfMemory>
     }
 }
 
-/// Writes the SVF file of an accepted procedure from its front, and keeps one piece of it at a time. After a refusal the file is as
-/// before, or holds some first bytes.
+/// Writes the SVF file of an accepted procedure from its front, and keeps one piece of it at a time. After a
+/// refusal the file is as before, or holds some first bytes.
 pub(crate) fn write_svf<S: Shelf>(
     alloc: Global,
     it: &Accepted,
@@ -59,11 +59,15 @@ pub(crate) fn write_svf<S: Shelf>(
 ) -> Result<(), StoreFault>
     requires usable { IsUsable it.now }
     requires procedure { there it.now.procedure ≡ true }
-    ensures whole { OnOk result (IsFiled (written_text (seen_accepted it.now)) (S.files shelf.old) (S.files shelf.new) name.now) }
-    ensures part { OnErr result ((S.files shelf.new ≡ S.files shelf.old) ⊎ IsPartFiled (written_text (seen_accepted it.now)) (S.files shelf.old) (S.files shelf.new) name.now) }
-    ensures text { IsErrOf result StoreFault.Failed → (bytes : List ℕ) × (written_text (seen_accepted it.now)).gives bytes }
+    ensures whole { OnOk result
+        (IsFiled (written_text (seen_accepted it.now)) (S.files shelf.old) (S.files shelf.new) name.now) }
+    ensures part { OnErr result ((S.files shelf.new ≡ S.files shelf.old) ⊎ IsPartFiled
+        (written_text (seen_accepted it.now)) (S.files shelf.old) (S.files shelf.new) name.now) }
+    ensures text { IsErrOf result StoreFault.Failed
+        → (bytes : List ℕ) × (written_text (seen_accepted it.now)).gives bytes }
     ensures others { OthersStay (S.files shelf.old) (S.files shelf.new) name.now }
-    ensures cause { HasCauseAt name.now (S.store_faults shelf.old) (S.store_faults shelf.new) result StoreFault.Failed }
+    ensures cause { HasCauseAt name.now (S.store_faults shelf.old)
+        (S.store_faults shelf.new) result StoreFault.Failed }
     ensures loads { SameCounts (S.load_faults shelf.old) (S.load_faults shelf.new) }
 {
     bit_steps_are_of_the_network();
@@ -99,8 +103,8 @@ pub fn read_commands(alloc: Global, bytes: &[u8]) -> Result<Commands, OutOfMemor
     }
 }
 
-/// Writes the SVF file of an accepted procedure, and gives the commands that a reader finds in its text. After a refusal the file is as
-/// before, or holds some first bytes.
+/// Writes the SVF file of an accepted procedure, and gives the commands that a reader finds in its text.
+/// After a refusal the file is as before, or holds some first bytes.
 pub(crate) fn write_commands<S: Shelf>(
     alloc: Global,
     it: &Accepted,
@@ -109,13 +113,17 @@ pub(crate) fn write_commands<S: Shelf>(
 ) -> Result<Commands, StoreFault>
     requires usable { IsUsable it.now }
     requires procedure { there it.now.procedure ≡ true }
-    ensures whole { IfOk result (HasCommands (written_text (seen_accepted it.now)) (S.files shelf.old) (S.files shelf.new) name.now) }
+    ensures whole { IfOk result
+        (HasCommands (written_text (seen_accepted it.now)) (S.files shelf.old) (S.files shelf.new) name.now) }
     ensures clocks { IfOk result (λ commands. length (pins InReset 0 commands) ≤ 1000000000) }
     ensures scans { IfOk result (λ commands. scans_in commands ≤ 1000000000) }
-    ensures part { OnErr result ((S.files shelf.new ≡ S.files shelf.old) ⊎ IsPartFiled (written_text (seen_accepted it.now)) (S.files shelf.old) (S.files shelf.new) name.now) }
-    ensures text { IsErrOf result StoreFault.Failed → (bytes : List ℕ) × (written_text (seen_accepted it.now)).gives bytes }
+    ensures part { OnErr result ((S.files shelf.new ≡ S.files shelf.old) ⊎ IsPartFiled
+        (written_text (seen_accepted it.now)) (S.files shelf.old) (S.files shelf.new) name.now) }
+    ensures text { IsErrOf result StoreFault.Failed
+        → (bytes : List ℕ) × (written_text (seen_accepted it.now)).gives bytes }
     ensures others { OthersStay (S.files shelf.old) (S.files shelf.new) name.now }
-    ensures cause { HasCauseAt name.now (S.store_faults shelf.old) (S.store_faults shelf.new) result StoreFault.Failed }
+    ensures cause { HasCauseAt name.now (S.store_faults shelf.old)
+        (S.store_faults shelf.new) result StoreFault.Failed }
     ensures loads { SameCounts (S.load_faults shelf.old) (S.load_faults shelf.new) }
 {
     let svf = make_svf(alloc, it)?;

@@ -19,7 +19,8 @@ few_scans (Reset ∷ cs) b = omega (arith, few_scans cs true)
 few_scans (Idle ∷ cs) b = omega (arith, few_scans cs false)
 few_scans (Run n ∷ cs) b = omega (arith, few_scans cs false)
 
-pub read_commands_are_playable : (src : List ℕ) (cs : List SeenCommand) → svf src ≡ Ok cs → AreFit cs → (length (pins InReset 0 cs) ≤ 1000000000) × (scans_in cs ≤ 1000000000)
+pub read_commands_are_playable : (src : List ℕ) (cs : List SeenCommand) → svf src ≡ Ok cs → AreFit cs
+    → (length (pins InReset 0 cs) ≤ 1000000000) × (scans_in cs ≤ 1000000000)
 read_commands_are_playable src cs e fit =
     let few = few_clocks src cs e in
     let count = pins_are_clocks cs InReset 0 fit in

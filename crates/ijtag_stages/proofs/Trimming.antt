@@ -10,5 +10,8 @@ use Rattle.net_graph.specs.Nets.{IsNet}
 use Rattle.trimmed_net.specs.Laws.{ViewsAreKept}
 use Rattle.trimmed_net.specs.Trimmed.{trimmed}
 
-pub trimmed_well_formed : NetsAreWellFormed → ViewsAreKept → (cells : List CellOf) (link instr : List ℕ) (from net : Net) → IsHierarchy cells → network cells link instr ≡ Ok (seen_net from) → net ≡ trimmed (seen_net from) → IsNet net
-trimmed_well_formed law kept cells link instr from net h e is = law cells link instr net h (e ∙ ap Ok (sym (ap seen_net is ∙ kept (seen_net from))))
+pub trimmed_well_formed : NetsAreWellFormed → ViewsAreKept
+    → (cells : List CellOf) (link instr : List ℕ) (from net : Net) → IsHierarchy cells
+    → network cells link instr ≡ Ok (seen_net from) → net ≡ trimmed (seen_net from) → IsNet net
+trimmed_well_formed law kept cells link instr from net h e is =
+    law cells link instr net h (e ∙ ap Ok (sym (ap seen_net is ∙ kept (seen_net from))))

@@ -9,26 +9,39 @@ pub never_decided : {R A : Type 0} → IsDecided {R = R} {A = A} never
 never_decided = record { one = λ a b p q. absurd p; apart = λ a r p q. q; alike = λ r s p q. absurd p }
 
 -- two refusals of work in turn: of the first part, or of the next one after the one value
-alike_in_turn : {R A B : Type 0} (first : Work R A) (next : A → Work R B) → IsDecided first → ((a : A) → IsDecided (next a)) → (r s : R) → RefusesInTurn first next r → RefusesInTurn first next s → r ≡ s
+alike_in_turn : {R A B : Type 0} (first : Work R A) (next : A → Work R B) → IsDecided first
+    → ((a : A) → IsDecided (next a)) → (r s : R)
+    → RefusesInTurn first next r → RefusesInTurn first next s → r ≡ s
 alike_in_turn first next f n r s p q =
     elim p [
-      | inl own ↦ elim q [ inl other ↦ f.alike r s own other | inr later ↦ absurd (f.apart later.0 r later.1 own) ]
+      | inl own ↦ elim q [
+        | inl other ↦ f.alike r s own other
+        | inr later ↦ absurd (f.apart later.0 r later.1 own)
+      ]
       | inr later ↦ elim q [
         | inl other ↦ absurd (f.apart later.0 s later.1 other)
-        | inr after ↦ (n after.0).alike r s (subst (λ a. (next a).refuses r) (f.one later.0 after.0 later.1 after.1) later.2) after.2
+        | inr after ↦ (n after.0).alike r s
+            (subst (λ a. (next a).refuses r) (f.one later.0 after.0 later.1 after.1) later.2) after.2
       ]
     ]
 
-pub in_turn_decided : {R A B : Type 0} (first : Work R A) (next : A → Work R B) → IsDecided first → ((a : A) → IsDecided (next a)) → IsDecided (first >>= next)
+pub in_turn_decided : {R A B : Type 0} (first : Work R A) (next : A → Work R B) → IsDecided first
+    → ((a : A) → IsDecided (next a)) → IsDecided (first >>= next)
 in_turn_decided {R} {A} {B} first next f n =
     record {
       one = λ x y p q. (n q.0).one x y (subst (λ a. (next a).gives x) (f.one p.0 q.0 p.1 q.1) p.2) q.2;
-      apart = λ x r p q. elim q [ inl own ↦ f.apart p.0 r p.1 own | inr later ↦ (n later.0).apart x r (subst (λ a. (next a).gives x) (f.one p.0 later.0 p.1 later.1) p.2) later.2 ];
+      apart = λ x r p q. elim q [
+        | inl own ↦ f.apart p.0 r p.1 own
+        | inr later ↦
+            (n later.0).apart x r (subst (λ a. (next a).gives x) (f.one p.0 later.0 p.1 later.1) p.2) later.2
+      ];
       alike = alike_in_turn first next f n;
     }
 
 pub give_total : {R A : Type 0} (x : A) → IsTotal {R = R} {A = A} (give x)
 give_total x none free = none x refl
 
-pub in_turn_total : {R A B : Type 0} (first : Work R A) (next : A → Work R B) → IsTotal first → ((a : A) → first.gives a → IsTotal (next a)) → IsTotal (first >>= next)
-in_turn_total first next f n none free = f (λ a given. n a given (λ b later. none b (a, given, later)) (λ r later. free r (inr (a, given, later)))) (λ r own. free r (inl own))
+pub in_turn_total : {R A B : Type 0} (first : Work R A) (next : A → Work R B) → IsTotal first
+    → ((a : A) → first.gives a → IsTotal (next a)) → IsTotal (first >>= next)
+in_turn_total first next f n none free = f (λ a given. n a given (λ b later. none b (a, given, later))
+    (λ r later. free r (inr (a, given, later)))) (λ r own. free r (inl own))

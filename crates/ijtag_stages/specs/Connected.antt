@@ -1,9 +1,11 @@
--- The stage of the network: each signal of the hierarchy followed to where it ends, or the first fault (IEEE 1687-2014, ICL: AccessLink).
+-- The stage of the network: each signal of the hierarchy followed to where it ends, or the first fault (IEEE
+-- 1687-2014, ICL: AccessLink).
 use Rattle.std.specs.Prelude.{◌≡◌, List, [], ◌∷◌, Ok, Err, codes}
 use Rattle.icl_references.specs.Roles.{CellOf}
 use Rattle.icl_signals.specs.Connecting.{network}
 use Rattle.icl_signals.specs.PlainNets.{NetOf}
-use Rattle.icl_signals.specs.Refusals.{Refusal as Fault, NoLink, Undriven, SignalLoop, BadSelect, InstrumentChain}
+use Rattle.icl_signals.specs.Refusals.{Refusal as Fault, NoLink, Undriven, SignalLoop, BadSelect}
+use Rattle.icl_signals.specs.Refusals.{InstrumentChain}
 use Rattle.net_graph.specs.declared.device.Device.{Device}
 use Rattle.net_graph.specs.declared.net.Net.{Net}
 use Rattle.trimmed_net.specs.Trimmed.{trimmed}
@@ -12,7 +14,8 @@ use Rattle.ijtag_stages.specs.declared.refusal.Stage.TheVariants.{Connect}
 
 -- how a fault is reported
 abbrev pub connect_refusal : Fault → Refusal
-connect_refusal (NoLink link instr) = record { stage = Connect; kind = codes "NoLink"; args = Said link ∷ Said instr ∷ [] }
+connect_refusal (NoLink link instr) =
+    record { stage = Connect; kind = codes "NoLink"; args = Said link ∷ Said instr ∷ [] }
 connect_refusal (Undriven at) = refused_at Connect (codes "Undriven") at
 connect_refusal (SignalLoop at) = refused_at Connect (codes "SignalLoop") at
 connect_refusal (BadSelect at) = refused_at Connect (codes "BadSelect") at
@@ -21,6 +24,8 @@ connect_refusal (InstrumentChain at) = refused_at Connect (codes "InstrumentChai
 -- the network that the device's instruction selects, with lists that have no room to spare
 unfoldable pub connected : List CellOf → Device → Part Net
 connected cells device = record {
-  gives = λ net. (of : NetOf) × (network cells device.link.items device.instr.items ≡ Ok of) × (net ≡ trimmed of);
-  refuses = λ r. (fault : Fault) × (network cells device.link.items device.instr.items ≡ Err fault) × (r ≡ connect_refusal fault);
+  gives = λ net. (of : NetOf)
+      × (network cells device.link.items device.instr.items ≡ Ok of) × (net ≡ trimmed of);
+  refuses = λ r. (fault : Fault) × (network cells device.link.items device.instr.items ≡ Err fault)
+      × (r ≡ connect_refusal fault);
 }

@@ -4,7 +4,8 @@ use Rattle.bench_file.specs.Device.{SeenDevice, device}
 use Rattle.net_graph.specs.declared.device.Device.{Device as TheDevice}
 use Rattle.trimmed_net.specs.Device.{trimmed_device}
 use Rattle.bench_file.specs.declared.fault.DeviceFault.{DeviceFault}
-use Rattle.bench_file.specs.declared.fault.DeviceFault.TheVariants.{DevSyntax, OpcodeWide, OpcodeOnes, OpcodeTwice, OutOfMemory}
+use Rattle.bench_file.specs.declared.fault.DeviceFault.TheVariants.{DevSyntax, OpcodeWide, OpcodeOnes}
+use Rattle.bench_file.specs.declared.fault.DeviceFault.TheVariants.{OpcodeTwice, OutOfMemory}
 use Rattle.ijtag_stages.specs.Refusals.{Part, Refusal, refused_at}
 use Rattle.ijtag_stages.specs.declared.refusal.Stage.TheVariants.{Device}
 

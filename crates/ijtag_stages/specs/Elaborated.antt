@@ -1,9 +1,13 @@
--- The stage of elaboration: the hierarchy below the top module, or the first fault of its names, values and signals (IEEE 1687-2014, ICL).
+-- The stage of elaboration: the hierarchy below the top module, or the first fault of its names, values and
+-- signals (IEEE 1687-2014, ICL).
 use Rattle.std.specs.Prelude.{◌≡◌, ℕ, List, [], ◌∷◌, Ok, Err, codes}
 use Rattle.ij_text.specs.declared.Which.{Which}
-use Rattle.ij_text.specs.declared.Which.TheVariants.{Hierarchy, Cells, ScanBits, Muxes, Instruments, Ports, PortBits, Width, Groups, RunLoop, RunCycles}
+use Rattle.ij_text.specs.declared.Which.TheVariants.{Hierarchy, Cells, ScanBits, Muxes, Instruments, Ports}
+use Rattle.ij_text.specs.declared.Which.TheVariants.{PortBits, Width, Groups, RunLoop, RunCycles}
 use Rattle.icl_lexer.specs.Values.{SeenModule}
-use Rattle.icl_declarations.specs.Faults.{Fault, NoModule, NoName, DoubleName, NoParameter, DivideByZero, BadNumber, BadRange, WidthDiffers, WrongKind, RowsOverlap, InstanceLoop, Limit}
+use Rattle.icl_declarations.specs.Faults.{Fault, NoModule, NoName, DoubleName, NoParameter, DivideByZero}
+use Rattle.icl_declarations.specs.Faults.{BadNumber, BadRange, WidthDiffers, WrongKind, RowsOverlap}
+use Rattle.icl_declarations.specs.Faults.{InstanceLoop, Limit}
 use Rattle.icl_references.specs.Roles.{CellOf}
 use Rattle.icl_elab.specs.Hierarchy.{hierarchy}
 use Rattle.ijtag_stages.specs.Refusals.{Part, Refusal, Said, Num, refused_at, refused_name, refused_word}
@@ -36,7 +40,8 @@ elab_refusal (WidthDiffers at) = refused_at Elab (codes "WidthDiffers") at
 elab_refusal (WrongKind at) = refused_at Elab (codes "WrongKind") at
 elab_refusal (RowsOverlap at) = refused_at Elab (codes "RowsOverlap") at
 elab_refusal (InstanceLoop at) = refused_at Elab (codes "InstanceLoop") at
-elab_refusal (Limit which number) = record { stage = Elab; kind = codes "Limit"; args = Said (which_name which) ∷ Num number ∷ [] }
+elab_refusal (Limit which number) =
+    record { stage = Elab; kind = codes "Limit"; args = Said (which_name which) ∷ Num number ∷ [] }
 
 -- the hierarchy below the top module of this name
 unfoldable pub elaborated : List SeenModule → List ℕ → Part (List CellOf)

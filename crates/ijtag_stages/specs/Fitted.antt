@@ -1,5 +1,5 @@
--- The stage that looks whether the tables fit the network: a table for each instrument, with the ports of the instrument
--- (IEEE 1687-2014, ICL: Instance, DataInPort, DataOutPort).
+-- The stage that looks whether the tables fit the network: a table for each instrument, with the ports of the
+-- instrument (IEEE 1687-2014, ICL: Instance, DataInPort, DataOutPort).
 use Rattle.std.specs.Prelude.{◌≡◌, List, Option, Some, None, Ok, Err, codes}
 use Rattle.bench_file.specs.Fits.{fitted}
 use Rattle.bench_file.specs.declared.fault.FitsFault.{FitsFault}

@@ -3,7 +3,8 @@ use Rattle.std.specs.Prelude.{◌≡◌, Option, Some, Result, Ok, Err}
 use Rattle.ijtag_stages.specs.Refusals.{Part, Refusal}
 use Rattle.ijtag_stages.specs.Seen.{seen_refusal}
 use Rattle.ijtag_stages.specs.declared.refusal.StageFault.{StageFault}
-use Rattle.ijtag_stages.specs.declared.refusal.StageFault.TheVariants.{Refused as RefusedStage, OutOfMemory as MemoryStage}
+use Rattle.ijtag_stages.specs.declared.refusal.StageFault.TheVariants.{Refused as RefusedStage}
+use Rattle.ijtag_stages.specs.declared.refusal.StageFault.TheVariants.{OutOfMemory as MemoryStage}
 
 -- a stage's fault is what the work refuses for, or want of memory
 abbrev pub IsFault : {A : Type 0} → Part A → StageFault → Type 0

@@ -1,4 +1,5 @@
--- The stage of the ICL text: its tokens, and the modules that the grammar makes of them (IEEE 1687-2014, the part that is read here).
+-- The stage of the ICL text: its tokens, and the modules that the grammar makes of them (IEEE 1687-2014, the
+-- part that is read here).
 use Rattle.std.specs.Prelude.{◌≡◌, ℕ, List, Option, Some, None, codes}
 use Rattle.icl_lexer.specs.declared.fault.LexFault.{LexFault}
 use Rattle.icl_lexer.specs.declared.fault.LexFault.TheVariants.{BadByte, OpenComment, OpenText}
@@ -8,7 +9,8 @@ use Rattle.icl_lexer.specs.Seen.{SeenToken, HasTokens}
 use Rattle.icl_lexer.specs.Values.{SeenModule}
 use Rattle.icl_parser.specs.Refusals.{IsRefused}
 use Rattle.icl_parser.specs.declared.fault.ParseFault.{ParseFault}
-use Rattle.icl_parser.specs.declared.fault.ParseFault.TheVariants.{LeftOut, ExprLimit, Syntax, OutOfMemory as NoMemoryForTree}
+use Rattle.icl_parser.specs.declared.fault.ParseFault.TheVariants.{LeftOut, ExprLimit, Syntax}
+use Rattle.icl_parser.specs.declared.fault.ParseFault.TheVariants.{OutOfMemory as NoMemoryForTree}
 use Rattle.ijtag_stages.specs.Work.{◌>>=◌}
 use Rattle.ijtag_stages.specs.Refusals.{Part, Refusal, refused_at, refused_word}
 use Rattle.ijtag_stages.specs.declared.refusal.Stage.TheVariants.{Icl}

@@ -24,24 +24,29 @@ pub record StagesAreDecided : Type 0 where
   pub device : (text : List ℕ) → IsDecided (device_text text)
   pub tables : (text : List ℕ) → IsDecided (tables_text text)
   pub svf : (text : List ℕ) → IsDecided (svf_text text)
-  pub network : (modules : List SeenModule) (top : List ℕ) (of : Device) → IsDecided (network_below modules top of)
+  pub network : (modules : List SeenModule) (top : List ℕ) (of : Device)
+      → IsDecided (network_below modules top of)
   pub fit : (net : Net) (tables : List SeenTable) → IsDecided (models_of net tables)
   pub pdl : (text : List ℕ) → IsDecided (pdl_text text)
-  pub procedure : (procs : List AProc) (network : NestedNet) (name : List ℕ) → IsDecided (procedure procs network name)
+  pub procedure : (procs : List AProc) (network : NestedNet) (name : List ℕ)
+      → IsDecided (procedure procs network name)
 
--- and each stage comes to an end: a text, or what was made of it, is accepted or refused. (A network that is made of a text is looked at
--- where the text is one that a file may have.)
+-- and each stage comes to an end: a text, or what was made of it, is accepted or refused. (A network that is
+-- made of a text is looked at where the text is one that a file may have.)
 pub record StagesAreTotal : Type 0 where
   pub icl : (text : List ℕ) → IsTotal (icl_text text)
   pub device : (text : List ℕ) → IsTotal (device_text text)
   pub tables : (text : List ℕ) → IsTotal (tables_text text)
   pub svf : (text : List ℕ) → IsTotal (svf_text text)
-  pub network : (text : List ℕ) (modules : List SeenModule) (top : List ℕ) (of : Device) → length text ≤ 134217728 → (icl_text text).gives modules → IsTotal (network_below modules top of)
+  pub network : (text : List ℕ) (modules : List SeenModule) (top : List ℕ) (of : Device)
+      → length text ≤ 134217728 → (icl_text text).gives modules → IsTotal (network_below modules top of)
   pub fit : (net : Net) (tables : List SeenTable) → IsTotal (models_of net tables)
   pub pdl : (text : List ℕ) → IsTotal (pdl_text text)
-  pub procedure : (procs : List AProc) (network : NestedNet) (name : List ℕ) → IsTotal (procedure procs network name)
+  pub procedure : (procs : List AProc) (network : NestedNet) (name : List ℕ)
+      → IsTotal (procedure procs network name)
 
 -- what is read of an SVF text can be played in a number of clocks that is counted
 abbrev pub ReadCommandsArePlayable : Type 0
 ReadCommandsArePlayable =
-    (src : List ℕ) (cs : List SeenCommand) → svf src ≡ Ok cs → (length (pins InReset 0 cs) ≤ 1000000000) × (scans_in cs ≤ 1000000000)
+    (src : List ℕ) (cs : List SeenCommand) → svf src ≡ Ok cs
+    → (length (pins InReset 0 cs) ≤ 1000000000) × (scans_in cs ≤ 1000000000)

@@ -1,5 +1,5 @@
--- The stage of the nested form: the multiplexers stand inside one another, and their selects are lawful, or the first cause why not
--- (IEEE 1687-2014, ICL: ScanMux, SelectedBy, ResetValue).
+-- The stage of the nested form: the multiplexers stand inside one another, and their selects are lawful, or
+-- the first cause why not (IEEE 1687-2014, ICL: ScanMux, SelectedBy, ResetValue).
 use Rattle.std.specs.Prelude.{◌≡◌, [], ◌∷◌, Option, Some, None, codes}
 use Rattle.net_graph.specs.declared.net.Net.{Net}
 use Rattle.net_graph.specs.Nets.{IsNet}
@@ -7,7 +7,9 @@ use Rattle.net_tree.specs.Form.{Items, Describes}
 use Rattle.net_tree.specs.Lawful.{IsLawful}
 use Rattle.nest_check.specs.Causes.{HasCause}
 use Rattle.nest_check.specs.declared.fault.NestFault.{NestFault}
-use Rattle.nest_check.specs.declared.fault.NestFault.TheVariants.{Unreached, NotNested, SelectInside, SelectShared, SelectDrives, SelectNoReset, ResetUnlisted, TooDeep, OutOfMemory}
+use Rattle.nest_check.specs.declared.fault.NestFault.TheVariants.{Unreached, NotNested, SelectInside}
+use Rattle.nest_check.specs.declared.fault.NestFault.TheVariants.{SelectShared, SelectDrives, SelectNoReset}
+use Rattle.nest_check.specs.declared.fault.NestFault.TheVariants.{ResetUnlisted, TooDeep, OutOfMemory}
 use Rattle.icl_signals.specs.PlainNets.{NetOf, seen_net}
 use Rattle.ijtag_stages.specs.NetNames.{cell_name, mux_name, inst_name, bit_arg}
 use Rattle.ijtag_stages.specs.Refusals.{Part, Refusal, Said, refused, refused_name}
@@ -18,9 +20,12 @@ abbrev pub nest_refusal : NetOf → NestFault → Option Refusal
 nest_refusal of (Unreached cell) = Some (refused_name Nest (codes "Unreached") (cell_name of cell))
 nest_refusal of NotNested = Some (refused Nest (codes "NotNested"))
 nest_refusal of (SelectInside mux) = Some (refused_name Nest (codes "SelectInside") (mux_name of mux))
-nest_refusal of (SelectShared bit) = Some (record { stage = Nest; kind = codes "SelectShared"; args = bit_arg of bit ∷ [] })
-nest_refusal of (SelectDrives bit inst) = Some (record { stage = Nest; kind = codes "SelectDrives"; args = bit_arg of bit ∷ Said (inst_name of inst) ∷ [] })
-nest_refusal of (SelectNoReset bit) = Some (record { stage = Nest; kind = codes "SelectNoReset"; args = bit_arg of bit ∷ [] })
+nest_refusal of (SelectShared bit) =
+    Some (record { stage = Nest; kind = codes "SelectShared"; args = bit_arg of bit ∷ [] })
+nest_refusal of (SelectDrives bit inst) = Some (record
+    { stage = Nest; kind = codes "SelectDrives"; args = bit_arg of bit ∷ Said (inst_name of inst) ∷ [] })
+nest_refusal of (SelectNoReset bit) =
+    Some (record { stage = Nest; kind = codes "SelectNoReset"; args = bit_arg of bit ∷ [] })
 nest_refusal of (ResetUnlisted mux) = Some (refused_name Nest (codes "ResetUnlisted") (mux_name of mux))
 nest_refusal of (TooDeep mux) = Some (refused_name Nest (codes "TooDeep") (mux_name of mux))
 nest_refusal of OutOfMemory = None

@@ -1,5 +1,6 @@
--- How the parts of a network are called: the names of the instances below the top down to the part, and the part's own name, with
--- dots between; nothing for a part that isn't there (IEEE 1687-2014, ICL: hierarchical names).
+-- How the parts of a network are called: the names of the instances below the top down to the part, and the
+-- part's own name, with dots between; nothing for a part that isn't there (IEEE 1687-2014, ICL: hierarchical
+-- names).
 use Rattle.std.specs.Prelude.{ℕ, ◌+◌, ◌-◌, nat_lt, cond, List, [], ◌++◌, map, drop, get_or, codes}
 use Rattle.net_graph.specs.declared.net.BitId.{BitId}
 use Rattle.net_graph.specs.declared.net.Point.{Point}

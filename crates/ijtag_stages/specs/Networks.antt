@@ -1,4 +1,5 @@
--- From the design's modules to the network that is compiled for or played on: the hierarchy, its signals, and the nested form.
+-- From the design's modules to the network that is compiled for or played on: the hierarchy, its signals, and
+-- the nested form.
 use Rattle.std.specs.Prelude.{ℕ, List}
 use Rattle.icl_lexer.specs.Values.{SeenModule}
 use Rattle.net_graph.specs.declared.device.Device.{Device}

@@ -2,7 +2,8 @@
 use Rattle.std.specs.Prelude.{◌≡◌, ℕ, List, Option, Some, None, codes}
 use Rattle.pdl_parser.specs.Cutting.{words_of}
 use Rattle.pdl_parser.specs.Grammar.{procs}
-use Rattle.pdl_parser.specs.Refusals.{AFault, NoMemory, IsLeftOut, IsNotInLevel0, IsBadNumber, IsTooWide, IsProcTwice, IsNoArg, IsSyntax, IsRefused}
+use Rattle.pdl_parser.specs.Refusals.{AFault, NoMemory, IsLeftOut, IsNotInLevel0, IsBadNumber, IsTooWide}
+use Rattle.pdl_parser.specs.Refusals.{IsProcTwice, IsNoArg, IsSyntax, IsRefused}
 use Rattle.pdl_parser.specs.Values.{AProc}
 use Rattle.ijtag_stages.specs.Refusals.{Part, Refusal, refused_at, refused_word}
 use Rattle.ijtag_stages.specs.declared.refusal.Stage.TheVariants.{Pdl}

@@ -3,15 +3,19 @@
 use Rattle.std.specs.Prelude.{◌≡◌, ℕ, List, [], ◌∷◌, Option, Some, None, codes}
 use Rattle.std.specs.Option.{option_map}
 use Rattle.merge_order.specs.declared.step_fault.StepFault.{StepFault}
-use Rattle.merge_order.specs.declared.step_fault.StepFault.TheVariants.{OutOfMemory as StepMemory, Expand, Feed}
+use Rattle.merge_order.specs.declared.step_fault.StepFault.TheVariants.{OutOfMemory as StepMemory, Expand}
+use Rattle.merge_order.specs.declared.step_fault.StepFault.TheVariants.{Feed}
 use Rattle.merge_order.specs.Seen.{expand_fault, feed_fault}
 use Rattle.merge_order.specs.BitSteps.{AFault, Expands, Feeds, bit_steps}
 use Rattle.icl_signals.specs.PlainNets.{NetOf, seen_net}
 use Rattle.merge_order.specs.Feeding.{AFault as FeedFault, IsMergeInside, IsMergeReset, Targets}
 use Rattle.net_graph.specs.SeenSteps.{SeenStep}
-use Rattle.pdl_expand.specs.Expansion.{AFault as ExpandFault, IsNoProc, IsArgCount, IsTooManySteps, IsNoName, IsCallDepth}
+use Rattle.pdl_expand.specs.Expansion.{AFault as ExpandFault, IsNoProc, IsArgCount, IsTooManySteps, IsNoName}
+use Rattle.pdl_expand.specs.Expansion.{IsCallDepth}
 use Rattle.pdl_parser.specs.Values.{AProc}
-use Rattle.pdl_targets.specs.Targets.{AFault as TargetFault, IsNoTarget, IsNoValue, IsValueWide, IsNotWritable, IsNotReadable, IsSelectTarget, IsBadCount, IsLimit, IsUnapplied}
+use Rattle.pdl_targets.specs.Targets.{AFault as TargetFault, IsNoTarget, IsNoValue, IsValueWide}
+use Rattle.pdl_targets.specs.Targets.{IsNotWritable, IsNotReadable, IsSelectTarget, IsBadCount, IsLimit}
+use Rattle.pdl_targets.specs.Targets.{IsUnapplied}
 use Rattle.ijtag_stages.specs.Elaborated.{which_name}
 use Rattle.ijtag_stages.specs.NetNames.{bit_arg}
 use Rattle.ijtag_stages.specs.Networks.{NestedNet}
@@ -33,9 +37,11 @@ target_refusal of (IsNoValue at) = refused_at Pdl (codes "NoValue") at
 target_refusal of (IsValueWide at) = refused_at Pdl (codes "ValueWide") at
 target_refusal of (IsNotWritable at) = refused_at Pdl (codes "NotWritable") at
 target_refusal of (IsNotReadable at) = refused_at Pdl (codes "NotReadable") at
-target_refusal of (IsSelectTarget at bit) = record { stage = Pdl; kind = codes "SelectTarget"; args = At at ∷ bit_arg of bit ∷ [] }
+target_refusal of (IsSelectTarget at bit) =
+    record { stage = Pdl; kind = codes "SelectTarget"; args = At at ∷ bit_arg of bit ∷ [] }
 target_refusal of (IsBadCount at) = refused_at Pdl (codes "BadCount") at
-target_refusal of (IsLimit at which number) = record { stage = Pdl; kind = codes "Limit"; args = At at ∷ Said (which_name which) ∷ Num number ∷ [] }
+target_refusal of (IsLimit at which number) =
+    record { stage = Pdl; kind = codes "Limit"; args = At at ∷ Said (which_name which) ∷ Num number ∷ [] }
 target_refusal of (IsUnapplied at) = refused_at Pdl (codes "Unapplied") at
 
 -- how a fault of a step is reported
@@ -58,5 +64,6 @@ fault_of (Feed e) = option_map Feeds (feed_fault e)
 unfoldable pub procedure : List AProc → NestedNet → List ℕ → Part (List SeenStep)
 procedure procs network name = record {
   gives = λ steps. bit_steps procs network.net network.form name ≡ record { steps = steps; fault = None };
-  refuses = λ r. (fault : AFault) × ((bit_steps procs network.net network.form name).fault ≡ Some fault) × (r ≡ step_refusal (seen_net network.net) fault);
+  refuses = λ r. (fault : AFault) × ((bit_steps procs network.net network.form name).fault ≡ Some fault)
+      × (r ≡ step_refusal (seen_net network.net) fault);
 }

@@ -6,7 +6,9 @@ use Rattle.ij_io.specs.Bytes.{concat}
 use Rattle.ij_text.specs.declared.Place.{Place}
 use Rattle.ijtag_stages.specs.Work.{Work}
 use Rattle.ijtag_stages.specs.declared.refusal.Stage.{Stage}
-use Rattle.ijtag_stages.specs.declared.refusal.Stage.TheVariants.{File, Icl, Device, Tables, Svf, Elab, Connect, Nest, Fit, Pdl, Make, Muxtest, Explain, Where, Picture, Wave}
+use Rattle.ijtag_stages.specs.declared.refusal.Stage.TheVariants.{File, Icl, Device, Tables, Svf, Elab}
+use Rattle.ijtag_stages.specs.declared.refusal.Stage.TheVariants.{Connect, Nest, Fit, Pdl, Make, Muxtest}
+use Rattle.ijtag_stages.specs.declared.refusal.Stage.TheVariants.{Explain, Where, Picture, Wave}
 
 -- what stands after the cause: a place, a number, a text as it stands, or a bit by its register and index
 pub data Arg : Type 0 where

@@ -4,7 +4,8 @@ use Rattle.ijtag_stages.specs.Networks.{NestedNet}
 use Rattle.ijtag_stages.specs.Refusals.{Refusal, Arg, At, Num, Said, Bit}
 use Rattle.ijtag_stages.specs.declared.network.Network.{Network}
 use Rattle.ijtag_stages.specs.declared.refusal.Arg.{Arg as RustArg}
-use Rattle.ijtag_stages.specs.declared.refusal.Arg.TheVariants.{At as AtArg, Num as NumArg, Said as SaidArg, Bit as BitArg}
+use Rattle.ijtag_stages.specs.declared.refusal.Arg.TheVariants.{At as AtArg, Num as NumArg, Said as SaidArg}
+use Rattle.ijtag_stages.specs.declared.refusal.Arg.TheVariants.{Bit as BitArg}
 use Rattle.ijtag_stages.specs.declared.refusal.Refusal.{Refusal as RustRefusal}
 
 abbrev pub seen_arg : RustArg → Arg
@@ -14,7 +15,8 @@ seen_arg (SaidArg text) = Said text.items
 seen_arg (BitArg register index) = Bit register.items index
 
 abbrev pub seen_refusal : RustRefusal → Refusal
-seen_refusal refusal = record { stage = refusal.stage; kind = refusal.kind.now; args = map seen_arg refusal.args.items }
+seen_refusal refusal =
+    record { stage = refusal.stage; kind = refusal.kind.now; args = map seen_arg refusal.args.items }
 
 abbrev pub seen_network : Network → NestedNet
 seen_network network = record { net = network.net; form = network.form }

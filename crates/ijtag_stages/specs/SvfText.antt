@@ -4,7 +4,8 @@ use Rattle.svf_writer.specs.SeenCommands.{SeenCommand}
 use Rattle.svf_reader.specs.Answers.{Refuses}
 use Rattle.svf_reader.specs.Meaning.{svf}
 use Rattle.svf_reader.specs.declared.fault.SvfFault.{SvfFault}
-use Rattle.svf_reader.specs.declared.fault.SvfFault.TheVariants.{LeftOut, SvfSyntax, SvfLimit, HexWide, TdiMissing, OutOfMemory}
+use Rattle.svf_reader.specs.declared.fault.SvfFault.TheVariants.{LeftOut, SvfSyntax, SvfLimit, HexWide}
+use Rattle.svf_reader.specs.declared.fault.SvfFault.TheVariants.{TdiMissing, OutOfMemory}
 use Rattle.ijtag_stages.specs.Refusals.{Part, Refusal, refused_at, refused_word}
 use Rattle.ijtag_stages.specs.declared.refusal.Stage.TheVariants.{Svf}
 

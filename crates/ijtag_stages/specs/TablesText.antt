@@ -2,7 +2,8 @@
 use Rattle.std.specs.Prelude.{◌≡◌, ℕ, List, Option, Some, None, Ok, Err, codes}
 use Rattle.table_file.specs.Tables.{SeenTable, tables}
 use Rattle.table_file.specs.declared.fault.TableFault.{TableFault}
-use Rattle.table_file.specs.declared.fault.TableFault.TheVariants.{TableSyntax, TableName, TableWidth, TableLimit, TableTwice, OutOfMemory}
+use Rattle.table_file.specs.declared.fault.TableFault.TheVariants.{TableSyntax, TableName, TableWidth}
+use Rattle.table_file.specs.declared.fault.TableFault.TheVariants.{TableLimit, TableTwice, OutOfMemory}
 use Rattle.ijtag_stages.specs.Refusals.{Part, Refusal, refused_at}
 use Rattle.ijtag_stages.specs.declared.refusal.Stage.TheVariants.{Tables}
 

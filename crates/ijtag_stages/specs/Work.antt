@@ -1,4 +1,5 @@
--- Work that is done in order: each part gives a value to the next one, or refuses, and then nothing more is done.
+-- Work that is done in order: each part gives a value to the next one, or refuses, and then nothing more is
+-- done.
 use Rattle.std.specs.Prelude.{◌≡◌, ◌⊎◌}
 
 -- what a part may give, and what it may refuse for

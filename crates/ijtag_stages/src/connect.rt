@@ -38,7 +38,9 @@ fn told(alloc: Global, fault: ConnectFault) -> StageFault
 /// The network that the device's instruction selects. Where there is none, the fault says where and why.
 #[tactic(auto, unfolding(crate::specs::Connected::connected))]
 fn connect_ends(alloc: Global, hier: &Hier, device: &Device) -> Result<Net, StageFault>
-    ensures network { MatchResult result (λ net. network (seen_hier hier.now) device.now.link.items device.now.instr.items ≡ Ok (seen_net net)) (λ fault. IsFault (connected (seen_hier hier.now) device.now) fault) }
+    ensures network { MatchResult result
+        (λ net. network (seen_hier hier.now) device.now.link.items device.now.instr.items ≡ Ok (seen_net net))
+        (λ fault. IsFault (connected (seen_hier hier.now) device.now) fault) }
 {
     match connect(alloc, hier, &device.link, &device.instr) {
         Ok(net) => Ok(net),
@@ -46,8 +48,8 @@ fn connect_ends(alloc: Global, hier: &Hier, device: &Device) -> Result<Net, Stag
     }
 }
 
-/// The network that the device's instruction selects, with lists that have no room to spare. Where there is none, the fault says
-/// where and why.
+/// The network that the device's instruction selects, with lists that have no room to spare. Where there is
+/// none, the fault says where and why.
 #[tactic(auto, unfolding(crate::specs::Connected::connected))]
 pub fn connect_hierarchy(alloc: Global, hier: &Hier, device: &Device) -> Result<Net, StageFault>
     ensures follows { Follows (connected (seen_hier hier.now) device.now) (λ net. net) result }

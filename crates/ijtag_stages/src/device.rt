@@ -28,7 +28,8 @@ fn told(alloc: Global, fault: DeviceFault) -> StageFault
 #[tactic(auto, unfolding(crate::specs::DeviceText::device_text))]
 fn read_lines(alloc: Global, text: &[u8]) -> Result<Device, StageFault>
     requires { length text.now ≤ 134217728 }
-    ensures device { MatchResult result (λ d. device text.now ≡ Ok (seen_device d)) (λ fault. IsFault (device_text text.now) fault) }
+    ensures device { MatchResult result (λ d. device text.now ≡ Ok (seen_device d))
+        (λ fault. IsFault (device_text text.now) fault) }
     ensures valid { IfOk result IsDevice }
 {
     match bench_file::read_device(alloc, text) {
@@ -37,7 +38,8 @@ fn read_lines(alloc: Global, text: &[u8]) -> Result<Device, StageFault>
     }
 }
 
-/// The device of a text, with names that have no room to spare. Where a line is at fault, the fault says where and why.
+/// The device of a text, with names that have no room to spare. Where a line is at fault, the fault says
+/// where and why.
 #[tactic(auto, unfolding(crate::specs::DeviceText::device_text))]
 pub fn read_device(alloc: Global, text: &[u8]) -> Result<Device, StageFault>
     requires { length text.now ≤ 134217728 }

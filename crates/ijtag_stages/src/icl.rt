@@ -58,7 +58,8 @@ fn read_modules<'a>(alloc: Global, text: &[u8], tokens: Cursor<'a>) -> Result<De
     }
 }
 
-/// The design of an ICL text (IEEE 1687-2014, the part that is read here). Where it isn't one, the fault says where and why.
+/// The design of an ICL text (IEEE 1687-2014, the part that is read here). Where it isn't one, the fault says
+/// where and why.
 #[tactic(auto, unfolding(crate::specs::IclText::icl_text))]
 pub fn read_icl(alloc: Global, text: &[u8]) -> Result<Design, StageFault>
     requires { length text.now ≤ 134217728 }

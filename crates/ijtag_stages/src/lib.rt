@@ -1,5 +1,5 @@
-//! The stages of the work on texts, each a call that follows the work of its name in `specs/`: it gives what the work gives, or
-//! refuses as the work does. A stage knows nothing of the commands that it serves.
+//! The stages of the work on texts, each a call that follows the work of its name in `specs/`: it gives what
+//! the work gives, or refuses as the work does. A stage knows nothing of the commands that it serves.
 #![tactic(auto)]
 
 mod connect;

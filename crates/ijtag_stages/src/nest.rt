@@ -26,7 +26,8 @@ fn told_cell(alloc: Global, net: &Net, kind: &'static [u8], cell: Point) -> Stag
 
 /// A refusal that tells a bit.
 fn told_bit(alloc: Global, net: &Net, kind: &'static [u8], bit: BitId) -> StageFault
-    ensures { IsToldAs (Some (record { stage = Stage.Nest; kind = kind.now; args = bit_arg (seen_net net.now) bit ∷ [] })) result }
+    ensures { IsToldAs (Some
+        (record { stage = Stage.Nest; kind = kind.now; args = bit_arg (seen_net net.now) bit ∷ [] })) result }
 {
     match bit_arg(alloc, net, bit) {
         Ok(arg) => refused_one(alloc, Stage::Nest, kind, arg),
@@ -36,7 +37,11 @@ fn told_bit(alloc: Global, net: &Net, kind: &'static [u8], bit: BitId) -> StageF
 
 /// The refusal that tells a select bit and the instrument that it drives.
 fn told_drives(alloc: Global, net: &Net, bit: BitId, inst: u32) -> StageFault
-    ensures { IsToldAs (Some (record { stage = Stage.Nest; kind = codes "SelectDrives"; args = bit_arg (seen_net net.now) bit ∷ Said (inst_name (seen_net net.now) inst) ∷ [] })) result }
+    ensures { IsToldAs (Some (record {
+      stage = Stage.Nest;
+      kind = codes "SelectDrives";
+      args = bit_arg (seen_net net.now) bit ∷ Said (inst_name (seen_net net.now) inst) ∷ [];
+    })) result }
 {
     match (bit_arg(alloc, net, bit), inst_name(alloc, net, inst)) {
         (Ok(bit), Ok(inst)) => {

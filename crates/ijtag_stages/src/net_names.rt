@@ -2,7 +2,8 @@
 ghost use Rattle.std.specs.Prelude.{◌≡◌, map, drop, IfOk};
 ghost use Rattle.icl_signals.specs.PlainNets.{seen_net, seen_thing};
 ghost use Rattle.pdl_parser.specs.Views.{bytes_of};
-ghost use Rattle.ijtag_stages.specs.NetNames.{path_at, node_name, name_in, mux_name, inst_name, thing_name, reg_thing, cell_name, index_of, bit_index, bit_arg};
+ghost use Rattle.ijtag_stages.specs.NetNames.{path_at, node_name, name_in, mux_name, inst_name, thing_name};
+ghost use Rattle.ijtag_stages.specs.NetNames.{reg_thing, cell_name, index_of, bit_index, bit_arg};
 ghost use Rattle.ijtag_stages.specs.Seen.{seen_arg};
 
 use crate::refusal::Arg;

@@ -1,4 +1,5 @@
-// From the design's modules to the network that is compiled for or played on: the hierarchy, its signals, and the nested form.
+// From the design's modules to the network that is compiled for or played on: the hierarchy, its signals, and
+// the nested form.
 ghost use Rattle.std.specs.Prelude.{IfOk};
 ghost use Rattle.icl_frames.specs.Written.{AreWritten};
 ghost use Rattle.icl_lexer.specs.Views.{seen_design};
@@ -34,7 +35,8 @@ pub fn read_network(
     device: &Device,
 ) -> Result<Network, StageFault>
     requires { AreWritten (seen_design design.now) }
-    ensures follows { Follows (network_below (seen_design design.now) top.now device.now) seen_network result }
+    ensures follows { Follows
+        (network_below (seen_design design.now) top.now device.now) seen_network result }
     ensures nested { IfOk result (λ network. IsNested network.net network.form) }
 {
     let hier = elaborate_design(alloc, design, top)?;

@@ -12,7 +12,8 @@ ghost use Rattle.pdl_targets.specs.Seen.{fault_of as target_fault};
 ghost use Rattle.ijtag_stages.specs.Elaborated.{which_name};
 ghost use Rattle.ijtag_stages.specs.Follows.{Follows, IsToldAs};
 ghost use Rattle.ijtag_stages.specs.NetNames.{bit_arg};
-ghost use Rattle.ijtag_stages.specs.Procedure.{procedure, expand_refusal, fault_of, feed_refusal, target_refusal, step_refusal};
+ghost use Rattle.ijtag_stages.specs.Procedure.{procedure, expand_refusal, fault_of, feed_refusal};
+ghost use Rattle.ijtag_stages.specs.Procedure.{target_refusal, step_refusal};
 ghost use Rattle.ijtag_stages.specs.Refusals.{At, Num, Said};
 ghost use Rattle.ijtag_stages.specs.Seen.{seen_network};
 
@@ -46,7 +47,11 @@ fn told_expand(alloc: Global, fault: ExpandFault) -> StageFault
 
 /// A refusal of a step at a register bit.
 fn told_bit(alloc: Global, net: &Net, at: Place, bit: BitId) -> StageFault
-    ensures { IsToldAs (Some (record { stage = Stage.Pdl; kind = codes "SelectTarget"; args = At at ∷ bit_arg (seen_net net.now) bit ∷ [] })) result }
+    ensures { IsToldAs (Some (record {
+      stage = Stage.Pdl;
+      kind = codes "SelectTarget";
+      args = At at ∷ bit_arg (seen_net net.now) bit ∷ [];
+    })) result }
 {
     match bit_arg(alloc, net, bit) {
         Ok(arg) => refused_two(alloc, Stage::Pdl, b"SelectTarget", Arg::At(at), arg),
@@ -56,7 +61,11 @@ fn told_bit(alloc: Global, net: &Net, at: Place, bit: BitId) -> StageFault
 
 /// A refusal of a step at a limit.
 fn told_limit(alloc: Global, at: Place, which: Which, number: u64) -> StageFault
-    ensures { IsToldAs (Some (record { stage = Stage.Pdl; kind = codes "Limit"; args = At at ∷ Said (which_name which) ∷ Num number ∷ [] })) result }
+    ensures { IsToldAs (Some (record {
+      stage = Stage.Pdl;
+      kind = codes "Limit";
+      args = At at ∷ Said (which_name which) ∷ Num number ∷ [];
+    })) result }
 {
     match name_of(alloc, which_name(which)) {
         Ok(name) => refused_three(
@@ -112,8 +121,8 @@ fn told(alloc: Global, net: &Net, fault: StepFault) -> StageFault
     }
 }
 
-/// Follows the procedure of this name to its end, and keeps none of its bit steps. Where it doesn't come to its end, the fault says
-/// where and why.
+/// Follows the procedure of this name to its end, and keeps none of its bit steps. Where it doesn't come to
+/// its end, the fault says where and why.
 #[tactic(auto, unfolding(crate::specs::Procedure::procedure))]
 pub fn check_procedure(
     alloc: Global,
@@ -124,8 +133,10 @@ pub fn check_procedure(
     requires net { IsNet network.now.net }
     requires distinct { AreDistinct (full_names (seen_procs procs.now)) }
     requires few { length procs.now.procs.items < 2 ^ 32 }
-    ensures follows { Follows (procedure (seen_procs procs.now) (seen_network network.now) name.now) (λ _. (bit_steps (seen_procs procs.now) network.now.net network.now.form name.now).steps) result }
-    ensures ends { OnOk result ((bit_steps (seen_procs procs.now) network.now.net network.now.form name.now).fault ≡ None) }
+    ensures follows { Follows (procedure (seen_procs procs.now) (seen_network network.now) name.now)
+        (λ _. (bit_steps (seen_procs procs.now) network.now.net network.now.form name.now).steps) result }
+    ensures ends { OnOk result
+        ((bit_steps (seen_procs procs.now) network.now.net network.now.form name.now).fault ≡ None) }
 {
     match check(
         alloc,

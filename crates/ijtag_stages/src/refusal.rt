@@ -3,7 +3,9 @@ ghost use Rattle.std.specs.Prelude.{◌≡◌, ◌≢◌, ◌∷◌, [], ◌++�
 ghost use Rattle.std.specs.List.{flat_map};
 ghost use Rattle.ij_io.specs.Bytes.{Adds, AddsPart};
 ghost use Rattle.ij_io.specs.Causes.{HasCause};
-ghost use Rattle.ijtag_stages.specs.Refusals.{refused, refused_at, refused_name, refused_number, refused_word, stage_name, arg_text, head_text, refusal_text, Said, Num};
+ghost use Rattle.ijtag_stages.specs.Refusals.{refused, refused_at, refused_name, refused_number};
+ghost use Rattle.ijtag_stages.specs.Refusals.{refused_word, stage_name, arg_text, head_text, refusal_text};
+ghost use Rattle.ijtag_stages.specs.Refusals.{Said, Num};
 ghost use Rattle.ijtag_stages.specs.Seen.{seen_arg, seen_refusal};
 ghost use Rattle.ijtag_stages.specs.Follows.{IsToldAs};
 ghost use Rattle.ijtag_stages.specs.declared.refusal.StageFault.TheVariants as stage_fault;
@@ -164,7 +166,8 @@ pub(crate) fn refused_two(
     first: Arg,
     second: Arg,
 ) -> StageFault
-    ensures { IsToldAs (Some (record { stage = stage; kind = kind.now; args = seen_arg first ∷ seen_arg second ∷ [] })) result }
+    ensures { IsToldAs (Some
+        (record { stage = stage; kind = kind.now; args = seen_arg first ∷ seen_arg second ∷ [] })) result }
 {
     match two(alloc, first, second) {
         Ok(args) => StageFault::Refused(Refusal { stage, kind, args }),
@@ -190,7 +193,11 @@ pub(crate) fn refused_three(
     second: Arg,
     third: Arg,
 ) -> StageFault
-    ensures { IsToldAs (Some (record { stage = stage; kind = kind.now; args = seen_arg first ∷ seen_arg second ∷ seen_arg third ∷ [] })) result }
+    ensures { IsToldAs (Some (record {
+      stage = stage;
+      kind = kind.now;
+      args = seen_arg first ∷ seen_arg second ∷ seen_arg third ∷ [];
+    })) result }
 {
     match three(alloc, first, second, third) {
         Ok(args) => StageFault::Refused(Refusal { stage, kind, args }),
@@ -234,7 +241,8 @@ fn limit_args(alloc: Global, which: &[u8], number: u64) -> Result<List<Arg>, Out
 
 /// A refusal that tells a limit and its number.
 pub fn refused_limit(alloc: Global, stage: Stage, which: &[u8], number: u64) -> StageFault
-    ensures { IsToldAs (Some (record { stage = stage; kind = codes "Limit"; args = Said which.now ∷ Num number ∷ [] })) result }
+    ensures { IsToldAs (Some
+        (record { stage = stage; kind = codes "Limit"; args = Said which.now ∷ Num number ∷ [] })) result }
 {
     match limit_args(alloc, which, number) {
         Ok(args) => StageFault::Refused(Refusal {
@@ -279,7 +287,8 @@ pub(crate) fn refused_names(
     first: Name,
     second: Name,
 ) -> StageFault
-    ensures { IsToldAs (Some (record { stage = stage; kind = kind.now; args = Said first.items ∷ Said second.items ∷ [] })) result }
+    ensures { IsToldAs (Some (record
+        { stage = stage; kind = kind.now; args = Said first.items ∷ Said second.items ∷ [] })) result }
 {
     match two(alloc, Arg::Said(first), Arg::Said(second)) {
         Ok(args) => StageFault::Refused(Refusal { stage, kind, args }),
@@ -321,8 +330,10 @@ fn put_arg<K: Sink>(arg: &Arg, k: &mut K) -> Result<(), StoreFault>
 
 /// Prints what stands after a cause.
 fn put_args<K: Sink>(args: &[Arg], k: &mut K) -> Result<(), StoreFault>
-    ensures whole { OnOk result (Adds (K.taken k.old) (K.taken k.new) (flat_map (λ arg. arg_text (seen_arg arg)) args.now)) }
-    ensures part { OnErr result (AddsPart (K.taken k.old) (K.taken k.new) (flat_map (λ arg. arg_text (seen_arg arg)) args.now)) }
+    ensures whole { OnOk result
+        (Adds (K.taken k.old) (K.taken k.new) (flat_map (λ arg. arg_text (seen_arg arg)) args.now)) }
+    ensures part { OnErr result
+        (AddsPart (K.taken k.old) (K.taken k.new) (flat_map (λ arg. arg_text (seen_arg arg)) args.now)) }
     ensures cause { HasCause (K.faults k.old) (K.faults k.new) result StoreFault.Failed }
 {
     for arg in args {
@@ -333,8 +344,10 @@ fn put_args<K: Sink>(args: &[Arg], k: &mut K) -> Result<(), StoreFault>
 
 /// Prints what stands after a cause, and the line's end.
 fn put_after<K: Sink>(args: &[Arg], k: &mut K) -> Result<(), StoreFault>
-    ensures whole { OnOk result (Adds (K.taken k.old) (K.taken k.new) (flat_map (λ arg. arg_text (seen_arg arg)) args.now ++ codes "\n")) }
-    ensures part { OnErr result (AddsPart (K.taken k.old) (K.taken k.new) (flat_map (λ arg. arg_text (seen_arg arg)) args.now ++ codes "\n")) }
+    ensures whole { OnOk result (Adds (K.taken k.old) (K.taken k.new)
+        (flat_map (λ arg. arg_text (seen_arg arg)) args.now ++ codes "\n")) }
+    ensures part { OnErr result (AddsPart (K.taken k.old) (K.taken k.new)
+        (flat_map (λ arg. arg_text (seen_arg arg)) args.now ++ codes "\n")) }
     ensures cause { HasCause (K.faults k.old) (K.faults k.new) result StoreFault.Failed }
 {
     put_args(args, k)?;
@@ -362,8 +375,10 @@ fn put_head<K: Sink>(stage: Stage, kind: &[u8], k: &mut K) -> Result<(), StoreFa
 
 /// Prints the line of a refusal.
 pub fn put_refusal<K: Sink>(refusal: &Refusal, k: &mut K) -> Result<(), StoreFault>
-    ensures whole { OnOk result (Adds (K.taken k.old) (K.taken k.new) (refusal_text (seen_refusal refusal.now))) }
-    ensures part { OnErr result (AddsPart (K.taken k.old) (K.taken k.new) (refusal_text (seen_refusal refusal.now))) }
+    ensures whole { OnOk result
+        (Adds (K.taken k.old) (K.taken k.new) (refusal_text (seen_refusal refusal.now))) }
+    ensures part { OnErr result
+        (AddsPart (K.taken k.old) (K.taken k.new) (refusal_text (seen_refusal refusal.now))) }
     ensures cause { HasCause (K.faults k.old) (K.faults k.new) result StoreFault.Failed }
 {
     put_head(refusal.stage, refusal.kind, k)?;

@@ -26,7 +26,8 @@ pub(crate) const SVF: &[u8] =
 const REPORT: &[u8] =
     b"register net.R 01\ninstrument cnt n=64 go=0 fin=1 changes 1 runs 100 resets 0\nscans 3 clocks 134 differs 0\n";
 
-/// A chip whose instrument has a memory: at each change of its inputs it stores `d` at `a` and shows what stood there.
+/// A chip whose instrument has a memory: at each change of its inputs it stores `d` at `a` and shows what
+/// stood there.
 pub(crate) const MEMORY: &[u8] =
     b"Module Mem { DataInPort a[3:0]; DataInPort d[7:0]; DataOutPort o[7:0]; }\nModule Net {\n  ScanInPort SI; ScanOutPort SO { Source R[0]; }\n  ScanInterface client { Port SI; Port SO; }\n  DataInPort o[7:0]; DataOutPort a[3:0] { Source R[3:0]; } DataOutPort d[7:0] { Source R[11:4]; }\n  ScanRegister R[11:0] { ScanInSource SI; CaptureSource R[11:8], o; ResetValue 12'b0; }\n}\nModule chip {\n  Instance net Of Net { InputPort o = mem.o; }\n  Instance mem Of Mem { InputPort a = net.a; InputPort d = net.d; }\n  AccessLink tap Of STD_1149_1_2001 {\n    BSDLEntity chip; IJTAG { ScanInterface { net.client; } }\n  }\n}\n";
 
@@ -48,8 +49,8 @@ const BRANCH: &[u8] =
 const TESTED: &[u8] =
     b"ENDIR IDLE;\nENDDR IDLE;\nSTATE RESET;\nSTATE IDLE;\nSIR 8 TDI (A0);\n! mux net.m row 0\nSDR 7 TDI (20) TDO (40) MASK (7E);\n! mux net.m row 1\nSDR 7 TDI (60) TDO (40) MASK (7E);\nSDR 11 TDI (060) TDO (400) MASK (7E0);\n";
 
-/// A command: its words, the files that there are, the names that it loads in their order, the name that it writes (or an empty one), the
-/// text that this file has then, and what is printed.
+/// A command: its words, the files that there are, the names that it loads in their order, the name that it
+/// writes (or an empty one), the text that this file has then, and what is printed.
 #[derive(Drop)]
 pub(crate) struct Command<'a> {
     pub words: &'a [&'a str],
@@ -201,7 +202,8 @@ pub(crate) enum Outcome {
     Wrong,
 }
 
-/// Words of a command. Like files and failing calls, one that finds no memory is left out, and then the run isn't as it should be.
+/// Words of a command. Like files and failing calls, one that finds no memory is left out, and then the run
+/// isn't as it should be.
 pub(crate) fn words(alloc: Global, parts: &[&str]) -> Vec<String> {
     let mut words = Vec::new(alloc);
     for part in parts {

@@ -52,7 +52,8 @@ fn differing(direct: &Direct<'_>) -> usize {
     count
 }
 
-/// What is kept of the network's only instrument and of all reads, in the words of `direct`; nothing without memory.
+/// What is kept of the network's only instrument and of all reads, in the words of `direct`; nothing without
+/// memory.
 fn kept_text(alloc: Global, net: &Net, direct: &Direct<'_>) -> Option<String>
     requires { length direct.now.state.insts ≡ length net.now.insts.items }
 {

@@ -25,8 +25,8 @@ fn is_whole(command: &Command<'_>, ended: &Ended) -> bool {
     ended.is(Status::Good, command.report, b"") && held == command.text
 }
 
-/// After so many calls that passed, one failed: a load leaves all, a store leaves a first part of the file, nothing is printed, and there
-/// are no other calls.
+/// After so many calls that passed, one failed: a load leaves all, a store leaves a first part of the file,
+/// nothing is printed, and there are no other calls.
 fn is_met(command: &Command<'_>, passed: usize, ended: &Ended) -> bool {
     let written = ended.shelf.file(command.writes);
     let loads = command.loads.len();
@@ -52,7 +52,8 @@ fn fails(alloc: Global, command: &Command<'_>, call: u32) -> bool {
     is_met(command, call.saturating_sub(1) as usize, &ended)
 }
 
-/// Each file is loaded once, in its order, and the one that is written is begun once, gets one piece, and is finished.
+/// Each file is loaded once, in its order, and the one that is written is begun once, gets one piece, and is
+/// finished.
 #[test]
 fn each_call_of_the_files_fails_once(rt: HostRuntime) {
     for command in &COMMANDS {

@@ -21,7 +21,8 @@ pub(crate) const NONE: Failing<'static> = Failing {
 
 pub(crate) const MAKE: [&str; 4] = ["make", "1", "1", "t"];
 
-/// The line of a failed store: each file is begun by one call, written by the next, and finished by the third.
+/// The line of a failed store: each file is begun by one call, written by the next, and finished by the
+/// third.
 fn fault_of_store(call: u32) -> &'static [u8] {
     match call {
         1 | 2 | 3 => b"write fault t.icl\n",
@@ -32,8 +33,8 @@ fn fault_of_store(call: u32) -> &'static [u8] {
     }
 }
 
-/// Whether a file holds what it may after a refused call, whose own calls are three from the one of this number on: it is as before
-/// until the first of them, and whole from the third on.
+/// Whether a file holds what it may after a refused call, whose own calls are three from the one of this
+/// number on: it is as before until the first of them, and whole from the third on.
 pub(crate) fn is_left(
     call: u32,
     first: u32,
@@ -64,7 +65,8 @@ fn are_left(whole: &Ended, ended: &Ended, call: u32) -> bool {
     left
 }
 
-/// Whether a make whose call of this number fails, of the files, says so and leaves what it may. There are 15 calls.
+/// Whether a make whose call of this number fails, of the files, says so and leaves what it may. There are 15
+/// calls.
 fn is_met(alloc: Global, whole: &Ended, call: u32) -> bool {
     let failing = Failing {
         shelf: &[call],

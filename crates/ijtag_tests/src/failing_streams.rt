@@ -61,8 +61,8 @@ fn a_report_that_is_not_taken(rt: HostRuntime) {
     }
 }
 
-/// A run that is refused, whose write of this number fails, of the error stream: the status is that of the refusal, and what the
-/// stream took is a first part of its line.
+/// A run that is refused, whose write of this number fails, of the error stream: the status is that of the
+/// refusal, and what the stream took is a first part of its line.
 fn refused(alloc: Global, words: &[&str], call: u32) -> Outcome {
     let line = b"refused icl Syntax 1:28\n".as_slice();
     let failing = Failing {

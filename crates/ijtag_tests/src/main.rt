@@ -1,5 +1,5 @@
-//! Tests of the program where a call of a file or of a stream fails: what it says then, and what stands. What it answers to texts is in
-//! the cases of `ijtag_answers`.
+//! Tests of the program where a call of a file or of a stream fails: what it says then, and what stands. What
+//! it answers to texts is in the cases of `ijtag_answers`.
 #![tactic(auto)]
 
 #[cfg(test)]

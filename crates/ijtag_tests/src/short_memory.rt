@@ -99,7 +99,8 @@ impl Sink for ShortSink {
     }
 }
 
-/// Which call finds no memory, counted from 1: of the files, of the output, and of the error stream. None does at 0.
+/// Which call finds no memory, counted from 1: of the files, of the output, and of the error stream. None
+/// does at 0.
 #[derive(Clone, Copy)]
 struct Short {
     shelf: u32,
@@ -195,8 +196,8 @@ fn is_written(command: &Command<'_>, ended: &Ended) -> bool {
     command.writes.is_empty() || ended.files.file(command.writes) == Some(command.text)
 }
 
-/// Whether a run without memory says and leaves what it may: its one line; of the report and of the file that is written, which wasn't
-/// there before, a first part; and all other files.
+/// Whether a run without memory says and leaves what it may: its one line; of the report and of the file that
+/// is written, which wasn't there before, a first part; and all other files.
 fn is_short(command: &Command<'_>, report: &[u8], ended: &Ended) -> bool {
     let held = ended.files.file(command.writes).unwrap_or(b"".as_slice());
     ended.is_out_of_memory(report) && others_stay(command, ended) && command.text.starts_with(held)
@@ -231,7 +232,8 @@ fn end_of_shelf(alloc: Global, command: &Command<'_>) -> Result<u32, u32> {
     Err(MANY)
 }
 
-/// Each command but `make` calls its files once for each load, and begins, grows and finishes the one that it writes.
+/// Each command but `make` calls its files once for each load, and begins, grows and finishes the one that it
+/// writes.
 #[test]
 fn each_call_of_the_files_finds_no_memory_once(rt: HostRuntime) {
     for command in &COMMANDS {
@@ -311,8 +313,8 @@ fn end_of_err(alloc: Global, words: &[&str]) -> Result<u32, u32> {
     Err(MANY)
 }
 
-/// Each call of the error stream of a refused run: the status is that of want of memory, and what the stream took is a first part of
-/// its line.
+/// Each call of the error stream of a refused run: the status is that of want of memory, and what the stream
+/// took is a first part of its line.
 #[test]
 fn each_call_of_the_error_stream_finds_no_memory_once(rt: HostRuntime) {
     for words in [COMPILE.as_slice(), &PLAY] {
@@ -321,7 +323,8 @@ fn each_call_of_the_error_stream_finds_no_memory_once(rt: HostRuntime) {
     }
 }
 
-/// Whether the files of a make that are finished before this call are whole, and those that aren't begun are as before.
+/// Whether the files of a make that are finished before this call are whole, and those that aren't begun are
+/// as before.
 fn are_left(whole: &WithFaults, ended: &Ended, call: u32) -> bool {
     let mut first = 1u32;
     let mut left = true;
@@ -334,7 +337,8 @@ fn are_left(whole: &WithFaults, ended: &Ended, call: u32) -> bool {
     left
 }
 
-/// Whether a make whose call of this number finds no memory, of the files, says so and leaves what it may. There are 15 calls.
+/// Whether a make whose call of this number finds no memory, of the files, says so and leaves what it may.
+/// There are 15 calls.
 fn is_met(alloc: Global, whole: &WithFaults, call: u32) -> bool {
     let ended = run(alloc, &MAKE, &FILES, Short::of_shelf(call));
     let said = if call > 15 {

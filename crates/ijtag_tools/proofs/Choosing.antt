@@ -12,7 +12,8 @@ no_more : (a b x y : ℕ) → a ≡ x → b ≡ y → a ≤ b → x ≤ y
 no_more a b x y p q less = omega (arith, p, q, less)
 
 -- that text itself
-pub own : (it : SeenAccepted) (p : Planned) (least : ℕ) → least ≡ least_of it → IsCompiled it p → IsTightened it (record { svf = p.svf; cost = p.cost; before = p.cost; least = least })
+pub own : (it : SeenAccepted) (p : Planned) (least : ℕ) → least ≡ least_of it → IsCompiled it p
+    → IsTightened it (record { svf = p.svf; cost = p.cost; before = p.cost; least = least })
 own it p least bound is =
     record {
       tight = record {
@@ -32,7 +33,8 @@ own it p least bound is =
     }
 
 -- or another one
-pub other : (it : SeenAccepted) (p q : Planned) (least : ℕ) → least ≡ least_of it → IsCompiled it p → IsSound it q → q.cost.scans ≤ p.cost.scans → q.cost.clocks ≤ p.cost.clocks
+pub other : (it : SeenAccepted) (p q : Planned) (least : ℕ) → least ≡ least_of it → IsCompiled it p
+    → IsSound it q → q.cost.scans ≤ p.cost.scans → q.cost.clocks ≤ p.cost.clocks
     → IsTightened it (record { svf = q.svf; cost = q.cost; before = p.cost; least = least })
 other it p q least bound is sound scans clocks =
     record {
@@ -44,8 +46,10 @@ other it p q least bound is sound scans clocks =
         written = is.written;
         before = is.sound.commands;
         read_compiled = is.sound.read;
-        no_more_scans = no_more q.cost.scans p.cost.scans _ _ (ap (λ (c : Cost). c.scans) sound.takes) (ap (λ (c : Cost). c.scans) is.sound.takes) scans;
-        no_more_clocks = no_more q.cost.clocks p.cost.clocks _ _ (ap (λ (c : Cost). c.clocks) sound.takes) (ap (λ (c : Cost). c.clocks) is.sound.takes) clocks;
+        no_more_scans = no_more q.cost.scans p.cost.scans _ _ (ap (λ (c : Cost). c.scans) sound.takes)
+            (ap (λ (c : Cost). c.scans) is.sound.takes) scans;
+        no_more_clocks = no_more q.cost.clocks p.cost.clocks _ _ (ap (λ (c : Cost). c.clocks) sound.takes)
+            (ap (λ (c : Cost). c.clocks) is.sound.takes) clocks;
       };
       takes = sound.takes;
       took = is.sound.takes;

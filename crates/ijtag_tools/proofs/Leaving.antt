@@ -1,6 +1,7 @@
 -- What a tighten leaves where it is done, or in part; and what its file then has.
 use Rattle.std.specs.Prelude.{IfSome, option_map}
-use Rattle.std.proofs.Common.{◌≡◌, ◌∙◌, ap, inl, inr, refl, subst, sym, ℕ, Bool, false, List, [], Option, Some, None}
+use Rattle.std.proofs.Common.{◌≡◌, ◌∙◌, ap, inl, inr, refl, subst, sym, ℕ, Bool, false, List, [], Option}
+use Rattle.std.proofs.Common.{Some, None}
 use Rattle.ij_io.specs.Bytes.{Adds, AddsPart}
 use Rattle.ij_io.specs.Files.{Files, file_at}
 use Rattle.ij_io.specs.Pieces.{HoldsPart}
@@ -40,18 +41,36 @@ module _ (name : List ℕ) (it : SeenAccepted) (t : Tightened) (is : Found it t)
 
   module _ (old new : Seen) where
     -- the file is cut off
-    pub file_part : HoldsPart old.files new.files name t.svf → new.printed ≡ old.printed → IsPartOf (tightened name it) old new
+    pub file_part : HoldsPart old.files new.files name t.svf
+        → new.printed ≡ old.printed → IsPartOf (tightened name it) old new
     file_part part silent =
-        inr (record { leaves = left; given = given; files = inr (part, tt); printed = adds_none text silent; in_order = inl silent })
+        inr (record {
+          leaves = left;
+          given = given;
+          files = inr (part, tt);
+          printed = adds_none text silent;
+          in_order = inl silent;
+        })
 
     module _ (whole : file_at new.files name ≡ option_map (λ _. Some t.svf) old.files) where
       -- the line is cut off
       pub line_part : AddsPart old.printed new.printed text → IsPartOf (tightened name it) old new
       line_part part =
-          inr (record { leaves = left; given = given; files = inr (whole_is_part old.files new.files name t.svf whole, tt); printed = part; in_order = inr (whole, tt) })
+          inr (record {
+            leaves = left;
+            given = given;
+            files = inr (
+              whole_is_part old.files new.files name
+                  t.svf whole,
+              tt,
+            );
+            printed = part;
+            in_order = inr (whole, tt);
+          })
 
       pub all_done : Adds old.printed new.printed text → IsDone (tightened name it) old new false
-      all_done printed = record { leaves = left; given = given; files = (whole, tt); printed = printed; verdict = refl }
+      all_done printed =
+          record { leaves = left; given = given; files = (whole, tt); printed = printed; verdict = refl }
 
 -- ---- what is done has such a file
 
@@ -59,7 +78,8 @@ module _ (files : Option Files) (printed : Option (List ℕ)) (new : Seen) where
   abbrev before : Seen
   before = record { files = files; printed = printed }
 
-  tight_file : (t : Tighten) (differs : Bool) → IsDone (work files (task (Tightens t))) before new differs → IsTightened files t (file_at new.files t.svf)
+  tight_file : (t : Tighten) (differs : Bool) → IsDone (work files (task (Tightens t))) before new differs
+      → IsTightened files t (file_at new.files t.svf)
   unfolding tightened
   tight_file t differs d =
       let g = d.given in
@@ -69,10 +89,16 @@ module _ (files : Option Files) (printed : Option (List ℕ)) (new : Seen) where
         it = g.2.0;
         read = g.1;
         accepted = g.2.1;
-        holds = record { bytes = left.0; written = (subst (λ (l : Leaves). AllHold l.files files new.files) left.2 d.files).0; tight = left.1 };
+        holds = record {
+          bytes = left.0;
+          written =
+              (subst (λ (l : Leaves). AllHold l.files files new.files) left.2 d.files).0;
+          tight = left.1;
+        };
       }
 
-  pub tight_done : (words : Option Command) (differs : Bool) → IfSome words (λ command. IsDone (work files (task command)) before new differs)
+  pub tight_done : (words : Option Command) (differs : Bool)
+      → IfSome words (λ command. IsDone (work files (task command)) before new differs)
       → IfSome words (λ command. IfTightens command (λ t. IsTightened files t (file_at new.files t.svf)))
   tight_done None differs d = tt
   tight_done (Some (Tightens t)) differs d = tight_file t differs d

@@ -31,7 +31,8 @@ pub record Explain : Type 0 where
   pub play : Play
   pub new : List ℕ
 
--- `where SVF ICL DEVICE TABLES TOP SCAN BIT`: the words of a play, a scan, counted from 1, and a position of it
+-- `where SVF ICL DEVICE TABLES TOP SCAN BIT`: the words of a play, a scan, counted from 1, and a position of
+-- it
 pub record Lookup : Type 0 where
   pub play : Play
   pub scan : ℕ
@@ -42,16 +43,16 @@ pub record Picture : Type 0 where
   pub network : Network
   pub new : List ℕ
 
--- `picture FORMAT ICL DEVICE TOP NEW SVF TABLES SCAN`: how it is drawn, the words of a play, the file that is written, and a scan, counted
--- from 1
+-- `picture FORMAT ICL DEVICE TOP NEW SVF TABLES SCAN`: how it is drawn, the words of a play, the file that is
+-- written, and a scan, counted from 1
 pub record PictureAt : Type 0 where
   pub format : PictureFormat
   pub play : Play
   pub new : List ℕ
   pub scan : ℕ
 
--- `wave KIND SVF ICL DEVICE TABLES TOP NEW`, and with FROM COUNT: which variables there are, the words of a play, the file that is
--- written, and the clocks that are written, where not all are
+-- `wave KIND SVF ICL DEVICE TABLES TOP NEW`, and with FROM COUNT: which variables there are, the words of a
+-- play, the file that is written, and the clocks that are written, where not all are
 pub record Wave : Type 0 where
   pub kind : WaveKind
   pub play : Play
@@ -116,11 +117,13 @@ play_on svf icl device tables top = record { svf = svf; network = network_of icl
 -- ---- the words after a command's name
 
 abbrev pub list_of : List (List ℕ) → Option Command
-list_of (format ∷ icl ∷ device ∷ top ∷ []) = option_map (λ f. Lists (record { format = f; network = network_of icl device top })) (format_named format)
+list_of (format ∷ icl ∷ device ∷ top ∷ []) =
+    option_map (λ f. Lists (record { format = f; network = network_of icl device top })) (format_named format)
 list_of _ = None
 
 abbrev pub explain_of : List (List ℕ) → Option Command
-explain_of (svf ∷ icl ∷ device ∷ tables ∷ top ∷ new ∷ []) = Some (Explains (record { play = play_on svf icl device tables top; new = new }))
+explain_of (svf ∷ icl ∷ device ∷ tables ∷ top ∷ new ∷ []) =
+    Some (Explains (record { play = play_on svf icl device tables top; new = new }))
 explain_of _ = None
 
 abbrev pub look_up_at : Option ℕ → Option ℕ → Play → Option Command
@@ -128,7 +131,8 @@ look_up_at (Some scan) (Some bit) play = Some (LooksUp (record { play = play; sc
 look_up_at _ _ play = None
 
 abbrev pub where_of : List (List ℕ) → Option Command
-where_of (svf ∷ icl ∷ device ∷ tables ∷ top ∷ scan ∷ bit ∷ []) = look_up_at (number_of scan) (number_of bit) (play_on svf icl device tables top)
+where_of (svf ∷ icl ∷ device ∷ tables ∷ top ∷ scan ∷ bit ∷ []) =
+    look_up_at (number_of scan) (number_of bit) (play_on svf icl device tables top)
 where_of _ = None
 
 abbrev pub drawn : Picture → PictureFormat → Command
@@ -136,18 +140,21 @@ drawn p Svg = Pictures p
 drawn p Dot = Graphs p
 
 abbrev pub drawn_at : Option PictureFormat → Option ℕ → Play → List ℕ → Option Command
-drawn_at (Some format) (Some scan) play new = Some (PicturesAt (record { format = format; play = play; new = new; scan = scan }))
+drawn_at (Some format) (Some scan) play new =
+    Some (PicturesAt (record { format = format; play = play; new = new; scan = scan }))
 drawn_at _ _ play new = None
 
 abbrev pub picture_of : List (List ℕ) → Option Command
 picture_of (format ∷ icl ∷ device ∷ top ∷ new ∷ []) =
-    option_map (drawn (record { network = network_of icl device top; new = new })) (picture_format_named format)
+    option_map (drawn (record { network = network_of icl device top; new = new }))
+    (picture_format_named format)
 picture_of (format ∷ icl ∷ device ∷ top ∷ new ∷ svf ∷ tables ∷ scan ∷ []) =
     drawn_at (picture_format_named format) (number_of scan) (play_on svf icl device tables top) new
 picture_of _ = None
 
 abbrev pub waved_by : Option WaveKind → Option (Option Window) → Play → List ℕ → Option Command
-waved_by (Some kind) (Some window) play new = Some (Waves (record { kind = kind; play = play; new = new; window = window }))
+waved_by (Some kind) (Some window) play new =
+    Some (Waves (record { kind = kind; play = play; new = new; window = window }))
 waved_by _ _ play new = None
 
 abbrev pub wave_of : List (List ℕ) → Option Command
@@ -157,7 +164,8 @@ wave_of _ = None
 
 abbrev pub tighten_of : List (List ℕ) → Option Command
 tighten_of (how ∷ icl ∷ pdl ∷ device ∷ top ∷ name ∷ svf ∷ []) =
-    option_map (λ h. Tightens (record { how = h; procedure = procedure_of icl pdl device top name; svf = svf })) (how_named how)
+    option_map (λ h. Tightens
+    (record { how = h; procedure = procedure_of icl pdl device top name; svf = svf })) (how_named how)
 tighten_of _ = None
 
 -- the command that the first word names

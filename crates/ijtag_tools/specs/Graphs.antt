@@ -1,9 +1,12 @@
--- The network between the ends that a device's instruction selects, and why it has no nested form, where it has none.
+-- The network between the ends that a device's instruction selects, and why it has no nested form, where it
+-- has none.
 use Rattle.std.specs.Prelude.{◌≡◌, ℕ, List, Option, Some, None}
 use Rattle.icl_lexer.specs.Values.{SeenModule}
 use Rattle.icl_signals.specs.PlainNets.{seen_net}
 use Rattle.nest_check.specs.declared.fault.NestFault.{NestFault}
-use Rattle.nest_check.specs.declared.fault.NestFault.TheVariants.{Unreached, NotNested, SelectInside, SelectShared, SelectDrives, SelectNoReset, ResetUnlisted, TooDeep, OutOfMemory}
+use Rattle.nest_check.specs.declared.fault.NestFault.TheVariants.{Unreached, NotNested, SelectInside}
+use Rattle.nest_check.specs.declared.fault.NestFault.TheVariants.{SelectShared, SelectDrives, SelectNoReset}
+use Rattle.nest_check.specs.declared.fault.NestFault.TheVariants.{ResetUnlisted, TooDeep, OutOfMemory}
 use Rattle.net_graph.specs.declared.device.Device.{Device}
 use Rattle.net_graph.specs.declared.net.Net.{Net}
 use Rattle.net_graph.specs.declared.net.Point.{Point}

@@ -1,12 +1,15 @@
--- The table of commands of the second program: what each loads, writes and prints, and what it leaves of what its texts are accepted
--- as. The texts are accepted as those of the first program.
-use Rattle.std.specs.Prelude.{◌≡◌, ◌<◌, ◌≤◌, ◌-◌, ℕ, min, nat_lt, Bool, false, true, List, length, [], ◌∷◌, ◌++◌, Option, Some, None, codes, decimal}
+-- The table of commands of the second program: what each loads, writes and prints, and what it leaves of what
+-- its texts are accepted as. The texts are accepted as those of the first program.
+use Rattle.std.specs.Prelude.{◌≡◌, ◌<◌, ◌≤◌, ◌-◌, ℕ, min, nat_lt, Bool, false, true, List, length, [], ◌∷◌}
+use Rattle.std.specs.Prelude.{◌++◌, Option, Some, None, codes, decimal}
 use Rattle.ijtag_stages.specs.DeviceText.{device_text}
 use Rattle.ijtag_tools.specs.Graphs.{Graph, Unnested, graph_below}
 use Rattle.ijtag_stages.specs.IclText.{icl_text}
 use Rattle.ijtag_stages.specs.Refusals.{Part, refusal_text, refused, refused_number}
 use Rattle.ijtag_stages.specs.Work.{give, never, ◌>>=◌}
-use Rattle.ijtag_stages.specs.declared.refusal.Stage.TheVariants.{Explain as ExplainStage, Where as WhereStage, Picture as PictureStage, Wave as WaveStage}
+use Rattle.ijtag_stages.specs.declared.refusal.Stage.TheVariants.{Explain as ExplainStage}
+use Rattle.ijtag_stages.specs.declared.refusal.Stage.TheVariants.{Where as WhereStage}
+use Rattle.ijtag_stages.specs.declared.refusal.Stage.TheVariants.{Picture as PictureStage, Wave as WaveStage}
 use Rattle.ijtag_work.specs.Accepted.{SeenAccepted}
 use Rattle.ijtag_work.specs.Leaves.{Leaves}
 use Rattle.ijtag_work.specs.Inputs.{OfNetwork, OfPlay, OfProcedure, loads_of}
@@ -31,7 +34,9 @@ use Rattle.svf_notes.specs.declared.place.BitAnswer.{BitAnswer}
 use Rattle.svf_notes.specs.declared.place.BitAnswer.TheVariants.{Same, Differs, NoScan, NoBit}
 use Rattle.tap_machine.specs.declared.Stable.TheVariants.{Reset as InReset}
 use Rattle.tap_machine.specs.Play.{pins}
-use Rattle.ijtag_tools.specs.Command.{Command, Explain, Explains, Graphs, Listing, Lists, Lookup, LooksUp, Picture, PictureAt, Pictures, PicturesAt, Tighten, Tightens, Wave, Waves}
+use Rattle.ijtag_tools.specs.Command.{Command, Explain, Explains, Graphs, Listing, Lists, Lookup, LooksUp}
+use Rattle.ijtag_tools.specs.Command.{Picture, PictureAt, Pictures, PicturesAt, Tighten, Tightens, Wave}
+use Rattle.ijtag_tools.specs.Command.{Waves}
 use Rattle.ijtag_tools.specs.declared.words.PictureFormat.{PictureFormat}
 use Rattle.ijtag_tools.specs.declared.words.PictureFormat.TheVariants.{Svg, Dot}
 use Rattle.ijtag_tools.specs.Tight.{Cost, IsTight, cost_of, least_of}
@@ -49,7 +54,8 @@ list l = record {
   leaves = λ it. give (told (listed l.format it) false);
 }
 
--- ---- explain: the SVF file is written once more, with notes on its scans; the text must be one that can be read again
+-- ---- explain: the SVF file is written once more, with notes on its scans; the text must be one that can be
+-- read again
 
 unfoldable pub explained_of : SeenAccepted → List ℕ
 explained_of it = explained_text it.network.net it.device it.models it.commands it.svf
@@ -83,11 +89,14 @@ place_line scan bit it = where_text it.network.net it.device it.models it.comman
 abbrev pub answered : ℕ → ℕ → BitAnswer → Part Bool
 answered scan bit Same = give false
 answered scan bit Differs = give true
-answered scan bit NoScan = record { gives = λ _. ⊥; refuses = λ r. r ≡ refused_number WhereStage (codes "NoScan") scan }
-answered scan bit NoBit = record { gives = λ _. ⊥; refuses = λ r. r ≡ refused_number WhereStage (codes "NoBit") bit }
+answered scan bit NoScan =
+    record { gives = λ _. ⊥; refuses = λ r. r ≡ refused_number WhereStage (codes "NoScan") scan }
+answered scan bit NoBit =
+    record { gives = λ _. ⊥; refuses = λ r. r ≡ refused_number WhereStage (codes "NoBit") bit }
 
 unfoldable pub answer_at : ℕ → ℕ → SeenAccepted → Part Bool
-answer_at scan bit it = answered scan bit (where_answer it.network.net it.device it.models it.commands scan bit)
+answer_at scan bit it =
+    answered scan bit (where_answer it.network.net it.device it.models it.commands scan bit)
 
 abbrev pub looked_up : ℕ → ℕ → SeenAccepted → Part Leaves
 looked_up scan bit it = do
@@ -122,8 +131,8 @@ picture p = record {
   leaves = λ it. give (filed p.new (first_drawing it));
 }
 
--- the graph of a network, which may have no nested form: then its first line says why, and the register or multiplexer is marked that
--- the reason names
+-- the graph of a network, which may have no nested form: then its first line says why, and the register or
+-- multiplexer is marked that the reason names
 abbrev pub comment : Option Unnested → List ℕ
 comment None = []
 comment (Some why) = codes "// " ++ refusal_text why.refusal
@@ -151,12 +160,21 @@ graph_work p texts = do
   give (filed p.new (graph_text graph))
 
 abbrev pub graph : Picture → Task
-graph p = record { loads = loads_of (OfNetwork p.network); begins = never; first_writes = []; writes = p.new ∷ []; prints = false; work_on = graph_work p }
+graph p = record {
+  loads = loads_of (OfNetwork p.network);
+  begins = never;
+  first_writes =
+      [];
+  writes = p.new ∷ [];
+  prints = false;
+  work_on = graph_work p;
+}
 
 -- the same, with the active path before a scan of a play, or at its end; there must be such a scan
 abbrev pub held : ℕ → Option Holds → Part Holds
 held scan (Some holds) = give holds
-held scan None = record { gives = λ _. ⊥; refuses = λ r. r ≡ refused_number PictureStage (codes "NoScan") scan }
+held scan None =
+    record { gives = λ _. ⊥; refuses = λ r. r ≡ refused_number PictureStage (codes "NoScan") scan }
 
 unfoldable pub held_before : ℕ → SeenAccepted → Part Holds
 held_before scan it = held scan (holds_before it.network.net it.device it.models it.commands scan)
@@ -174,7 +192,8 @@ picture_at p = record {
   leaves = pictured_at p;
 }
 
--- ---- tighten: the SVF file has a text that is planned as a whole, and it is printed what it takes, and what any takes at least
+-- ---- tighten: the SVF file has a text that is planned as a whole, and it is printed what it takes, and what
+-- any takes at least
 
 unfoldable pub cost_line : Cost → Cost → ℕ → List ℕ
 cost_line now before least =
@@ -187,7 +206,8 @@ left_of name bytes now before least = ran name bytes (cost_line now before least
 
 unfoldable pub tightened : List ℕ → SeenAccepted → Part Leaves
 tightened name it = record {
-  gives = λ leaves. (bytes : List ℕ) × (tight : IsTight it bytes) × (leaves ≡ left_of name bytes (cost_of tight.commands) (cost_of tight.before) (least_of it));
+  gives = λ leaves. (bytes : List ℕ) × (tight : IsTight it bytes)
+      × (leaves ≡ left_of name bytes (cost_of tight.commands) (cost_of tight.before) (least_of it));
   refuses = λ r. ⊥;
 }
 
@@ -199,12 +219,14 @@ tighten t = record {
   leaves = tightened t.svf;
 }
 
--- ---- wave: the file has the waves of a play, of all its clocks or of some, and it is reported whether a compare of the play differs
+-- ---- wave: the file has the waves of a play, of all its clocks or of some, and it is reported whether a
+-- compare of the play differs
 
 -- no more clocks are written than a procedure may run
 abbrev pub within_if : Bool → Window → Part Window
 within_if true w = give w
-within_if false w = record { gives = λ _. ⊥; refuses = λ r. r ≡ refused_number WaveStage (codes "TooLong") w.count }
+within_if false w =
+    record { gives = λ _. ⊥; refuses = λ r. r ≡ refused_number WaveStage (codes "TooLong") w.count }
 
 abbrev pub within : Window → Part Window
 within w = within_if (nat_lt w.count 4000001) w
@@ -212,7 +234,8 @@ within w = within_if (nat_lt w.count 4000001) w
 -- the first clock must be one of the play's
 abbrev pub window_if : Bool → Window → ℕ → Part Window
 window_if true w clocks = within (record { from = w.from; count = min w.count (clocks - w.from) })
-window_if false w clocks = record { gives = λ _. ⊥; refuses = λ r. r ≡ refused_number WaveStage (codes "BadWindow") w.from }
+window_if false w clocks =
+    record { gives = λ _. ⊥; refuses = λ r. r ≡ refused_number WaveStage (codes "BadWindow") w.from }
 
 abbrev pub window_in : Option Window → ℕ → Part Window
 window_in None clocks = within (record { from = 0; count = clocks })

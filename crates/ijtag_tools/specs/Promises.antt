@@ -10,13 +10,15 @@ use Rattle.ijtag_tools.specs.Order.{explain, tighten}
 use Rattle.ijtag_tools.specs.Tight.{IsTight, NoneTakesFewer}
 
 -- the file holds such a text
-pub record HoldsTight (files : Option Files) (svf : Option (Option (List ℕ))) (it : SeenAccepted) : Type 0 where
+pub record HoldsTight (files : Option Files)
+    (svf : Option (Option (List ℕ))) (it : SeenAccepted) : Type 0 where
   pub bytes : List ℕ
   pub written : svf ≡ option_map (λ _. Some bytes) files
   pub tight : IsTight it bytes
 
 -- the file holds an SVF text in which a reader finds the commands of the text that is explained
-pub record HoldsSameCommands (files : Option Files) (new : Option (Option (List ℕ))) (it : SeenAccepted) : Type 0 where
+pub record HoldsSameCommands (files : Option Files)
+    (new : Option (Option (List ℕ))) (it : SeenAccepted) : Type 0 where
   pub bytes : List ℕ
   pub written : new ≡ option_map (λ _. Some bytes) files
   pub read : svf it.svf ≡ Ok it.commands

@@ -26,10 +26,12 @@ least_of it = least_clocks it.network.net it.network.form it.device it.steps
 abbrev pub NoneTakesFewer : SeenAccepted → Type 0
 NoneTakesFewer it =
     (commands : List SeenCommand) (readings : List Reading) → AreFit commands
-    → audit_commands it.network.net it.device it.steps commands ≡ Yes readings → least_of it ≤ length (pins InReset 0 commands)
+    → audit_commands it.network.net it.device it.steps commands ≡ Yes readings
+    → least_of it ≤ length (pins InReset 0 commands)
 
--- In the text a reader of SVF finds commands that do what the procedure means, by the audit and hence on every chip with this
--- network. They take no more scans and no more clocks than those of a text that a compile writes.
+-- In the text a reader of SVF finds commands that do what the procedure means, by the audit and hence on
+-- every chip with this network. They take no more scans and no more clocks than those of a text that a
+-- compile writes.
 pub record IsTight (it : SeenAccepted) (bytes : List ℕ) : Type 0 where
   pub commands : List SeenCommand
   pub read : svf bytes ≡ Ok commands

@@ -28,7 +28,8 @@ impl Cost {
     }
 }
 
-/// The clocks of a command, one more where Test-Logic-Reset is left (Serial Vector Format, revision E; IEEE 1149.1-2013).
+/// The clocks of a command, one more where Test-Logic-Reset is left (Serial Vector Format, revision E; IEEE
+/// 1149.1-2013).
 fn clocks_of(command: &Command, in_reset: bool) -> u64
     ensures { result ≡ clocks_from in_reset (seen_command command.now ∷ []) }
 {

@@ -19,8 +19,8 @@ use ijtag_work::{Accepted, Inputs, Stop, Texts, Verdict};
 use std::alloc::Global;
 use svf_notes::{explained_commands_stay, explained_len, explained_most, put_explained_file};
 
-/// Refuses a text with notes that is too long to be read again. It is played only where the lengths of its scans don't tell that
-/// it is short.
+/// Refuses a text with notes that is too long to be read again. It is played only where the lengths of its
+/// scans don't tell that it is short.
 #[tactic(auto, unfolding(crate::specs::Order::is_readable, crate::specs::Order::explained_of))]
 fn check_length(alloc: Global, it: &Accepted) -> Result<(), StageFault>
     requires usable { IsUsable it.now }
@@ -67,10 +67,13 @@ fn write_notes<S: Shelf>(
     requires models { there it.now.models ≡ true }
     requires text { there it.now.svf ≡ true }
     requires commands { there it.now.commands ≡ true }
-    ensures whole { OnOk result (file_at (S.files shelf.new) name.now ≡ option_map (λ _. Some (explained_of (seen_accepted it.now))) (S.files shelf.old)) }
-    ensures part { OnErr result (HoldsPart (S.files shelf.old) (S.files shelf.new) name.now (explained_of (seen_accepted it.now))) }
+    ensures whole { OnOk result (file_at (S.files shelf.new) name.now
+        ≡ option_map (λ _. Some (explained_of (seen_accepted it.now))) (S.files shelf.old)) }
+    ensures part { OnErr result
+        (HoldsPart (S.files shelf.old) (S.files shelf.new) name.now (explained_of (seen_accepted it.now))) }
     ensures others { OthersStay (S.files shelf.old) (S.files shelf.new) name.now }
-    ensures cause { HasCauseAt name.now (S.store_faults shelf.old) (S.store_faults shelf.new) result StoreFault.Failed }
+    ensures cause { HasCauseAt name.now (S.store_faults shelf.old)
+        (S.store_faults shelf.new) result StoreFault.Failed }
     ensures loads { SameCounts (S.load_faults shelf.old) (S.load_faults shelf.new) }
 {
     let net = &it.network.net;

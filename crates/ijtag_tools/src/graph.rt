@@ -8,7 +8,8 @@ ghost use Rattle.ijtag_tools.specs.Order.{cell_of, comment, graph, graph_in, gra
 ghost use Rattle.ijtag_tools.specs.Words.{seen_graph_words};
 ghost use Rattle.ijtag_work.specs.Follows.{AreTexts, seen_texts};
 ghost use Rattle.ijtag_work.specs.Loads.{names_of};
-ghost use Rattle.ijtag_work.specs.Runs.{AreFirstWritten, IsDone, IsPartDone, IsStop, OnlyTheseChange, OnlyTheseRise, counts, seen};
+ghost use Rattle.ijtag_work.specs.Runs.{AreFirstWritten, IsDone, IsPartDone, IsStop, OnlyTheseChange};
+ghost use Rattle.ijtag_work.specs.Runs.{OnlyTheseRise, counts, seen};
 ghost use Rattle.ijtag_work.specs.Seen.{differing, seen_stop};
 ghost use Rattle.ijtag_work.specs.Stops.{IsEarly};
 ghost use Rattle.ijtag_work.specs.Task.{work};
@@ -39,7 +40,8 @@ fn accept(alloc: Global, texts: &[Vec<u8>], top: &str) -> Result<Graph, StageFau
 
 /// Writes a comment that says why a network has no nested form, where it has none.
 fn put_comment(unnested: &Option<Unnested>, text: &mut SureSink) -> Result<(), StoreFault>
-    ensures { OnOk result (Adds (Some text.old) (Some text.new) (comment (option_map seen_unnested unnested.now))) }
+    ensures { OnOk result
+        (Adds (Some text.old) (Some text.new) (comment (option_map seen_unnested unnested.now))) }
 {
     match unnested {
         None => Ok(()),
@@ -85,26 +87,32 @@ fn make_text(alloc: Global, graph: &Graph) -> Result<SureSink, OutOfMemory>
     }
 }
 
-/// Loads the two files, accepts what they hold as a network, which may have no nested form, and writes its graph to the file. It
-/// prints nothing.
+/// Loads the two files, accepts what they hold as a network, which may have no nested form, and writes its
+/// graph to the file. It prints nothing.
 pub fn draw_graph<'a, S: Shelf, O: Sink>(
     alloc: Global,
     words: &GraphWords<'a>,
     shelf: &mut S,
     _out: &mut O,
 ) -> Result<Verdict, Stop<'a>>
-    ensures done { IfOk result (λ verdict. IsDone (work (S.files shelf.old) (graph (seen_graph_words words.now)))
-        (seen S.files O.taken shelf.old _out.old) (seen S.files O.taken shelf.new _out.new) (differing verdict)) }
+    ensures done { IfOk result
+        (λ verdict. IsDone (work (S.files shelf.old) (graph (seen_graph_words words.now)))
+        (seen S.files O.taken shelf.old _out.old)
+        (seen S.files O.taken shelf.new _out.new) (differing verdict)) }
     ensures stop { IfErr result (λ stop. IsStop (S.files shelf.old) (graph (seen_graph_words words.now))
-        (counts S.load_faults S.store_faults O.faults shelf.old shelf.new _out.old _out.new) (seen_stop stop)) }
+        (counts S.load_faults S.store_faults O.faults shelf.old shelf.new _out.old _out.new)
+        (seen_stop stop)) }
     ensures early { IfErr result (λ stop. IsEarly (seen_stop stop)
-        → AreFirstWritten (graph (seen_graph_words words.now)).begins (graph (seen_graph_words words.now)).first_writes (S.files shelf.old) (S.files shelf.new)) }
+        → AreFirstWritten (graph (seen_graph_words words.now)).begins
+        (graph (seen_graph_words words.now)).first_writes (S.files shelf.old) (S.files shelf.new)) }
     ensures part { OnErr result (IsPartDone (S.files shelf.old) (graph (seen_graph_words words.now))
         (seen S.files O.taken shelf.old _out.old) (seen S.files O.taken shelf.new _out.new)) }
     ensures files { OnlyTheseChange (words.now.graph.now ∷ []) (S.files shelf.old) (S.files shelf.new) }
     ensures out { _out.new ≡ _out.old }
-    ensures loads { OnlyTheseRise (names_of (graph (seen_graph_words words.now)).loads) (S.load_faults shelf.old) (S.load_faults shelf.new) }
-    ensures stores { OnlyTheseRise (words.now.graph.now ∷ []) (S.store_faults shelf.old) (S.store_faults shelf.new) }
+    ensures loads { OnlyTheseRise (names_of (graph (seen_graph_words words.now)).loads)
+        (S.load_faults shelf.old) (S.load_faults shelf.new) }
+    ensures stores { OnlyTheseRise (words.now.graph.now ∷ [])
+        (S.store_faults shelf.old) (S.store_faults shelf.new) }
 {
     let texts = words.network.load(alloc, shelf)?;
     let graph = accept(alloc, &texts, words.network.top)?;

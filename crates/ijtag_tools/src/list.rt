@@ -22,8 +22,10 @@ fn put_lines<O: Sink>(
     out: &mut O,
 ) -> Result<(), StoreFault>
     requires usable { IsUsable it.now }
-    ensures printed { OnOk result (Adds (O.taken out.old) (O.taken out.new) (listed format (seen_accepted it.now))) }
-    ensures part { OnErr result (AddsPart (O.taken out.old) (O.taken out.new) (listed format (seen_accepted it.now))) }
+    ensures printed { OnOk result
+        (Adds (O.taken out.old) (O.taken out.new) (listed format (seen_accepted it.now))) }
+    ensures part { OnErr result
+        (AddsPart (O.taken out.old) (O.taken out.new) (listed format (seen_accepted it.now))) }
     ensures cause { HasCause (O.faults out.old) (O.faults out.new) result StoreFault.Failed }
 {
     put_list(alloc, &it.network.net, &it.network.form, format, out)

@@ -1,5 +1,5 @@
-//! The second program, `ijtag-tools`: what engineers ask next of a network and of a procedure. Its commands accept their texts as
-//! those of `ijtag` do, and are run as they are.
+//! The second program, `ijtag-tools`: what engineers ask next of a network and of a procedure. Its commands
+//! accept their texts as those of `ijtag` do, and are run as they are.
 #![tactic(auto)]
 
 mod commands;

@@ -29,7 +29,8 @@ fn put_picture(
 ) -> Result<(), StoreFault>
     requires usable { IsUsable it.now }
     requires holds { AreHolds it.now.network.net holds.now }
-    ensures { OnOk result (Adds (Some text.old) (Some text.new) (drawing_of format (seen_accepted it.now) holds.now)) }
+    ensures { OnOk result
+        (Adds (Some text.old) (Some text.new) (drawing_of format (seen_accepted it.now) holds.now)) }
 {
     let net = &it.network.net;
     match format {

@@ -31,7 +31,8 @@ pub struct Planned {
     pub cost: Cost,
 }
 
-/// The text that is written, what its commands take, what those of a compile take, and what any take at least.
+/// The text that is written, what its commands take, what those of a compile take, and what any take at
+/// least.
 #[derive(Drop)]
 pub struct Tightened {
     /// The text.
@@ -49,7 +50,8 @@ fn is_yes(alloc: Global, it: &Accepted, commands: &Commands) -> Result<bool, Out
     requires usable { IsUsable it.now }
     requires procedure { there it.now.procedure ≡ true }
     requires few { scans_in commands.now ≤ 1000000000 }
-    ensures { IfOk result (λ yes. says_no (audit_commands it.now.network.net it.now.device (seen_accepted it.now).steps commands.now) ≡ not yes) }
+    ensures { IfOk result (λ yes. says_no (audit_commands it.now.network.net it.now.device
+        (seen_accepted it.now).steps commands.now) ≡ not yes) }
 {
     bit_steps_are_of_the_network();
     bit_steps_are_few();
@@ -88,7 +90,8 @@ fn compiled(alloc: Global, it: &Accepted) -> Result<Planned, OutOfMemory>
 #[tactic(auto, unfolding(ijtag_stages::specs::SvfText::svf_text))]
 fn read(alloc: Global, text: &[u8]) -> Result<Option<Commands>, OutOfMemory>
     ensures found { IfOk result (λ found. IfSome found (λ commands. svf text.now ≡ Ok commands)) }
-    ensures clocks { IfOk result (λ found. IfSome found (λ commands. length (pins InReset 0 commands) ≤ 1000000000)) }
+    ensures clocks { IfOk result
+        (λ found. IfSome found (λ commands. length (pins InReset 0 commands) ≤ 1000000000)) }
     ensures scans { IfOk result (λ found. IfSome found (λ commands. scans_in commands ≤ 1000000000)) }
 {
     if text.len() > SVF_LIMIT as usize {
@@ -167,7 +170,8 @@ fn least_of(alloc: Global, it: &Accepted) -> Result<u64, OutOfMemory>
     told
 }
 
-/// The text that is written: the one that is planned as a whole, where it takes no more than the one that a compile writes.
+/// The text that is written: the one that is planned as a whole, where it takes no more than the one that a
+/// compile writes.
 pub fn tightest(alloc: Global, it: &Accepted, how: How) -> Result<Tightened, OutOfMemory>
     requires usable { IsUsable it.now }
     requires procedure { there it.now.procedure ≡ true }

@@ -18,8 +18,10 @@ use std::alloc::Global;
 /// Prints what commands take, what those of a compile take, and the clocks that any take at least.
 #[tactic(auto, unfolding(ij_io::specs::Words::words_text, crate::specs::Order::cost_line))]
 fn put_costs<O: Sink>(now: Cost, before: Cost, least: u64, out: &mut O) -> Result<(), StoreFault>
-    ensures printed { OnOk result (Adds (O.taken out.old) (O.taken out.new) (cost_line (seen_cost now) (seen_cost before) least)) }
-    ensures part { OnErr result (AddsPart (O.taken out.old) (O.taken out.new) (cost_line (seen_cost now) (seen_cost before) least)) }
+    ensures printed { OnOk result
+        (Adds (O.taken out.old) (O.taken out.new) (cost_line (seen_cost now) (seen_cost before) least)) }
+    ensures part { OnErr result
+        (AddsPart (O.taken out.old) (O.taken out.new) (cost_line (seen_cost now) (seen_cost before) least)) }
     ensures cause { HasCause (O.faults out.old) (O.faults out.new) result StoreFault.Failed }
 {
     put_words(
@@ -40,7 +42,8 @@ fn put_costs<O: Sink>(now: Cost, before: Cost, least: u64, out: &mut O) -> Resul
     )
 }
 
-/// Writes the SVF file of a text that does what the procedure means, in as few clocks as are found, and prints what it takes.
+/// Writes the SVF file of a text that does what the procedure means, in as few clocks as are found, and
+/// prints what it takes.
 impl<'w> Effect for TightenWords<'w> {
     ghost table_row = { λ words. tighten (seen_tighten words) };
 

@@ -55,7 +55,8 @@ fn cell_of(fault: NestFault) -> Option<Point>
 
 /// How a fault is reported, and what it names.
 fn unnested_by(alloc: Global, net: &Net, fault: NestFault) -> Result<Unnested, OutOfMemory>
-    ensures told { IfOk result (λ why. nest_refusal (seen_net net.now) fault ≡ Some (seen_refusal why.refusal)) }
+    ensures told { IfOk result
+        (λ why. nest_refusal (seen_net net.now) fault ≡ Some (seen_refusal why.refusal)) }
     ensures cell { IfOk result (λ why. why.cell ≡ fault_cell fault) }
 {
     let cell = cell_of(fault);
@@ -80,8 +81,8 @@ fn find_why(alloc: Global, net: &Net) -> Result<Option<Unnested>, StageFault>
     }
 }
 
-/// The network below the top module of this name, between the ends that the device's instruction selects, and why it has no lawful
-/// nested form, where it has none.
+/// The network below the top module of this name, between the ends that the device's instruction selects, and
+/// why it has no lawful nested form, where it has none.
 #[tactic(auto, unfolding(crate::specs::Graphs::graph_below))]
 pub fn read_graph(
     alloc: Global,

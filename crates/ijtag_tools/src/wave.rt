@@ -33,7 +33,8 @@ fn check_count(alloc: Global, window: Window) -> Result<Window, StageFault>
     Ok(window)
 }
 
-/// The clocks that are written of a play of so many; refused where the first isn't one of them, and where they are too many.
+/// The clocks that are written of a play of so many; refused where the first isn't one of them, and where
+/// they are too many.
 fn check_window(alloc: Global, asked: Option<Window>, clocks: u64) -> Result<Window, StageFault>
     ensures { Follows (window_in asked clocks) (λ w. w) result }
 {
@@ -91,11 +92,15 @@ fn write_waves<S: Shelf>(
     requires usable { IsUsable it.now }
     requires models { there it.now.models ≡ true }
     requires commands { there it.now.commands ≡ true }
-    ensures differs { IfOk result (λ verdict. differing verdict ≡ any_differs (differs_at (seen_accepted it.now) (seen_accepted it.now).commands)) }
-    ensures whole { OnOk result (file_at (S.files shelf.new) name.now ≡ option_map (λ _. Some (waves_of kind top.now window (seen_accepted it.now))) (S.files shelf.old)) }
-    ensures part { OnErr result (HoldsPart (S.files shelf.old) (S.files shelf.new) name.now (waves_of kind top.now window (seen_accepted it.now))) }
+    ensures differs { IfOk result (λ verdict. differing verdict
+        ≡ any_differs (differs_at (seen_accepted it.now) (seen_accepted it.now).commands)) }
+    ensures whole { OnOk result (file_at (S.files shelf.new) name.now
+        ≡ option_map (λ _. Some (waves_of kind top.now window (seen_accepted it.now))) (S.files shelf.old)) }
+    ensures part { OnErr result (HoldsPart (S.files shelf.old) (S.files shelf.new) name.now
+        (waves_of kind top.now window (seen_accepted it.now))) }
     ensures others { OthersStay (S.files shelf.old) (S.files shelf.new) name.now }
-    ensures cause { HasCauseAt name.now (S.store_faults shelf.old) (S.store_faults shelf.new) result StoreFault.Failed }
+    ensures cause { HasCauseAt name.now (S.store_faults shelf.old)
+        (S.store_faults shelf.new) result StoreFault.Failed }
     ensures loads { SameCounts (S.load_faults shelf.old) (S.load_faults shelf.new) }
 {
     let net = &it.network.net;

@@ -27,7 +27,8 @@ fn look(alloc: Global, it: &Accepted, scan: u64, bit: u64) -> Result<Place, Stag
     requires usable { IsUsable it.now }
     requires models { there it.now.models ≡ true }
     requires commands { there it.now.commands ≡ true }
-    ensures answer { Follows (answer_at scan bit (seen_accepted it.now)) (λ place. differing place.verdict) result }
+    ensures answer { Follows (answer_at scan bit (seen_accepted it.now))
+        (λ place. differing place.verdict) result }
     ensures line { IfOk result (λ place. place.line ≡ place_line scan bit (seen_accepted it.now)) }
 {
     let net = &it.network.net;
@@ -43,7 +44,8 @@ fn look(alloc: Global, it: &Accepted, scan: u64, bit: u64) -> Result<Place, Stag
     Ok(Place { verdict, line })
 }
 
-/// Prints what stands at one position of one scan, and ends as a play does where its compare differs. No file changes.
+/// Prints what stands at one position of one scan, and ends as a play does where its compare differs. No file
+/// changes.
 impl<'w> Effect for WhereWords<'w> {
     ghost table_row = { λ words. look_up (seen_where words) };
 

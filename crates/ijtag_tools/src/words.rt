@@ -1,7 +1,9 @@
 // The words that the program is called with.
 ghost use Rattle.std.specs.Prelude.{◌≡◌, map, option_map};
 ghost use Rattle.std.specs.String.{string_bytes};
-ghost use Rattle.ijtag_tools.specs.Command.{command_in, drawn, explain_of, format_named, how_named, kind_named, list_of, picture_format_named, picture_of, tighten_of, wave_of, where_of, window_named};
+ghost use Rattle.ijtag_tools.specs.Command.{command_in, drawn, explain_of, format_named, how_named};
+ghost use Rattle.ijtag_tools.specs.Command.{kind_named, list_of, picture_format_named, picture_of};
+ghost use Rattle.ijtag_tools.specs.Command.{tighten_of, wave_of, where_of, window_named};
 ghost use Rattle.ijtag_tools.specs.Words.{seen_command};
 ghost use Rattle.ijtag_work.specs.Words.{seen_network};
 
@@ -79,7 +81,8 @@ pub struct PictureAtWords<'a> {
     pub scan: u64,
 }
 
-/// The words of `wave KIND SVF ICL DEVICE TABLES TOP NEW` and `wave KIND SVF ICL DEVICE TABLES TOP NEW FROM COUNT`.
+/// The words of `wave KIND SVF ICL DEVICE TABLES TOP NEW` and
+/// `wave KIND SVF ICL DEVICE TABLES TOP NEW FROM COUNT`.
 #[derive(Clone, Copy)]
 pub struct WaveWords<'a> {
     /// Which variables there are.
@@ -238,7 +241,8 @@ fn read_where<'a>(words: &'a [String]) -> Option<ToolWords<'a>>
 
 /// The command `picture` of power-up.
 fn draw_first<'a>(format: PictureFormat, network: NetworkWords<'a>, new: &'a str) -> ToolWords<'a>
-    ensures { seen_command result ≡ drawn (record { network = seen_network network.entry; new = new.now }) format }
+    ensures { seen_command result
+        ≡ drawn (record { network = seen_network network.entry; new = new.now }) format }
 {
     match format {
         PictureFormat::Svg => ToolWords::Picture(PictureWords {

@@ -15,10 +15,16 @@ use Rattle.retargeter.specs.Scripts.{HasScript, WritesScript, ScriptIsRight}
 use Rattle.std.proofs.lemmas.Option.{same_Some}
 
 -- each bit step of a procedure can be planned
-pub plannable : BitStepsAreOfTheNetwork → BitStepsHavePaths → ProceduresArePlannable → (procs : List AProc) (net : Net) (form : Items) (name : List ℕ) → IsNet net → Describes net form → All (StepIsPlannable net form) (bit_steps procs net form name).steps
-plannable valid paths plan procs net form name is d = plan net form (bit_steps procs net form name).steps (valid procs net form name is) (paths procs net form name) d
+pub plannable : BitStepsAreOfTheNetwork → BitStepsHavePaths → ProceduresArePlannable
+    → (procs : List AProc) (net : Net) (form : Items) (name : List ℕ) → IsNet net → Describes net form
+    → All (StepIsPlannable net form) (bit_steps procs net form name).steps
+plannable valid paths plan procs net form name is d = plan net form (bit_steps procs net form name).steps
+    (valid procs net form name is) (paths procs net form name) d
 
 -- a sink that was empty holds exactly the text, which is right
-pub made : (net : Net) (form : Items) (device : Device) (steps : List SeenStep) (svf : List ℕ) → HasScript net form device steps → WritesScript net form device steps (Some []) (Some svf) → ScriptIsRight net form device steps → IsRetargeted net form device steps svf
+pub made : (net : Net) (form : Items) (device : Device) (steps : List SeenStep) (svf : List ℕ)
+    → HasScript net form device steps → WritesScript net form device steps (Some []) (Some svf)
+    → ScriptIsRight net form device steps → IsRetargeted net form device steps svf
 made net form device steps svf (bytes, is) writes right =
-    subst (λ (b : List ℕ). IsRetargeted net form device steps b) (sym (same_Some svf bytes (writes bytes is).added)) (right bytes is)
+    subst (λ (b : List ℕ). IsRetargeted net form device steps b)
+    (sym (same_Some svf bytes (writes bytes is).added)) (right bytes is)

@@ -16,12 +16,14 @@ use Rattle.svf_writer.specs.SeenCommands.{SeenCommand}
 use Rattle.tap_machine.specs.Play.{is_empty}
 use Rattle.ijtag_work.specs.Accepted.{SeenAccepted}
 use Rattle.ijtag_work.specs.Leaves.{Leaves}
-use Rattle.ijtag_work.specs.Order.{any_differs, commands_of, ran, reads_differ, run_differs, run_of, run_report, written_text}
+use Rattle.ijtag_work.specs.Order.{any_differs, commands_of, ran, reads_differ, run_differs, run_of}
+use Rattle.ijtag_work.specs.Order.{run_report, written_text}
 use Rattle.ijtag_work.specs.Late.{IsPartOf}
 use Rattle.ijtag_work.specs.Runs.{Seen, IsDone}
 use Rattle.ijtag_work.proofs.Whole.{whole_is_part}
 
-any_alike : {A B : Type 0} (xs : List A) (ys : List B) → is_empty xs ≡ is_empty ys → any_differs xs ≡ any_differs ys
+any_alike : {A B : Type 0} (xs : List A) (ys : List B)
+    → is_empty xs ≡ is_empty ys → any_differs xs ≡ any_differs ys
 any_alike [] [] same = refl
 any_alike [] (y ∷ ys) same = absurd (cc)
 any_alike (x ∷ xs) [] same = absurd (cc)
@@ -38,24 +40,32 @@ module _ (name : List ℕ) (it : SeenAccepted) (bytes : List ℕ) (written : (wr
   -- a reader finds commands in the text
   pub found : (commands : List SeenCommand) × (commands_of bytes).gives commands
   unfolding written_text commands_of
-  found = (script_commands it.device (script_of it.network.net (start_holds it.network.net) written.plans), written.read)
+  found = (
+    script_commands it.device (script_of it.network.net (start_holds it.network.net) written.plans),
+    written.read,
+  )
 
   -- a compare of their play differs exactly where a read of the procedure's meaning does
-  pub ran_alike : RunsDifferAlike → (commands : List SeenCommand) → (commands_of bytes).gives commands → run_differs it commands ≡ reads_differ it
+  pub ran_alike : RunsDifferAlike → (commands : List SeenCommand) → (commands_of bytes).gives commands
+      → run_differs it commands ≡ reads_differ it
   unfolding written_text commands_of
   ran_alike alike commands is =
-      any_alike _ _ (alike it.network.net it.network.form it.device it.models it.steps bytes commands written is)
+      any_alike _ _
+      (alike it.network.net it.network.form it.device it.models it.steps bytes commands written is)
 
-  module _ (plans : (xs : List PlannedStep) × AreStepsOf it.network.net it.network.form (start_holds it.network.net) it.steps xs) where
+  module _ (plans : (xs : List PlannedStep)
+      × AreStepsOf it.network.net it.network.form (start_holds it.network.net) it.steps xs) where
     -- the report of their play
     abbrev pub report : List SeenCommand → List ℕ
-    report commands = named_report (read_at (places it.network.net plans.0)) it.network.net it.device it.models commands
+    report commands =
+        named_report (read_at (places it.network.net plans.0)) it.network.net it.device it.models commands
 
     pub told : (commands : List SeenCommand) → (run_report it commands).gives (report commands)
     unfolding run_report
     told commands = record { plans = plans.0; planned = plans.1; text = refl }
 
-    given : (commands : List SeenCommand) → (commands_of bytes).gives commands → (run_of name it).gives (ran name bytes (report commands) (run_differs it commands))
+    given : (commands : List SeenCommand) → (commands_of bytes).gives commands
+        → (run_of name it).gives (ran name bytes (report commands) (run_differs it commands))
     unfolding run_of
     given commands is = (bytes, written, (commands, is, (report commands, told commands, refl)))
 
@@ -65,9 +75,16 @@ module _ (name : List ℕ) (it : SeenAccepted) (bytes : List ℕ) (written : (wr
 
     module _ (old new : Seen) where
       -- the file is cut off
-      pub write_part : HoldsPart old.files new.files name bytes → new.printed ≡ old.printed → IsPartOf (run_of name it) old new
+      pub write_part : HoldsPart old.files new.files name bytes
+          → new.printed ≡ old.printed → IsPartOf (run_of name it) old new
       write_part part silent =
-          inr (record { leaves = ran name bytes (report found.0) (run_differs it found.0); given = given found.0 found.1; files = inr (part, tt); printed = adds_none (report found.0) silent; in_order = inl silent })
+          inr (record {
+            leaves = ran name bytes (report found.0) (run_differs it found.0);
+            given = given found.0 found.1;
+            files = inr (part, tt);
+            printed = adds_none (report found.0) silent;
+            in_order = inl silent;
+          })
 
       module _ (whole : file_at new.files name ≡ option_map (λ _. Some bytes) old.files) where
         all_held : HoldsPart old.files new.files name bytes
@@ -79,10 +96,25 @@ module _ (name : List ℕ) (it : SeenAccepted) (bytes : List ℕ) (written : (wr
 
         module _ (commands : List SeenCommand) (is : (commands_of bytes).gives commands) where
           -- the report is cut off
-          pub print_part : AddsPart old.printed new.printed (report commands) → IsPartOf (run_of name it) old new
+          pub print_part : AddsPart old.printed new.printed (report commands)
+              → IsPartOf (run_of name it) old new
           print_part part =
-              inr (record { leaves = ran name bytes (report commands) (run_differs it commands); given = given commands is; files = inr (all_held, tt); printed = part; in_order = inr (whole, tt) })
+              inr (record {
+                leaves = ran name bytes (report commands) (run_differs it commands);
+                given =
+                    given commands is;
+                files = inr (all_held, tt);
+                printed = part;
+                in_order = inr (whole, tt);
+              })
 
-          pub ran_done : (differs : Bool) → Adds old.printed new.printed (report commands) → differs ≡ run_differs it commands → IsDone (run_of name it) old new differs
+          pub ran_done : (differs : Bool) → Adds old.printed new.printed (report commands)
+              → differs ≡ run_differs it commands → IsDone (run_of name it) old new differs
           ran_done differs printed verdict =
-              record { leaves = ran name bytes (report commands) (run_differs it commands); given = given commands is; files = (whole, tt); printed = printed; verdict = verdict }
+              record {
+                leaves = ran name bytes (report commands) (run_differs it commands);
+                given = given commands is;
+                files = (whole, tt);
+                printed = printed;
+                verdict = verdict;
+              }

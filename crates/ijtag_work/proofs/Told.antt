@@ -9,9 +9,11 @@ use Rattle.ij_io.specs.Bytes.{Adds, AddsPart}
 pub adds_all : {old new : Option (List ℕ)} {text : List ℕ} → Adds old new text → AddsPart old new text
 adds_all {old} {new} {text} adds = record {
   count = length text;
-  added = adds.added ∙ ap (λ (t : List ℕ). option_map (λ (bytes : List ℕ). bytes ++ t) old) (sym (take-length text));
+  added = adds.added
+      ∙ ap (λ (t : List ℕ). option_map (λ (bytes : List ℕ). bytes ++ t) old) (sym (take-length text));
 }
 
-pub told_part : {T E : Type 0} {old new : Option (List ℕ)} {text : List ℕ} (result : Result T E) → OnOk result (Adds old new text) → OnErr result (AddsPart old new text) → AddsPart old new text
+pub told_part : {T E : Type 0} {old new : Option (List ℕ)} {text : List ℕ} (result : Result T E)
+    → OnOk result (Adds old new text) → OnErr result (AddsPart old new text) → AddsPart old new text
 told_part (Ok x) whole part = adds_all whole
 told_part (Err e) whole part = part

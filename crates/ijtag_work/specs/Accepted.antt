@@ -1,5 +1,6 @@
--- What the texts of a command are accepted as. Every command accepts its texts in this one order, each of them where the command has
--- it: the lines of a `do` block are done in turn, and the first that refuses decides.
+-- What the texts of a command are accepted as. Every command accepts its texts in this one order, each of
+-- them where the command has it: the lines of a `do` block are done in turn, and the first that refuses
+-- decides.
 use Rattle.std.specs.Prelude.{ℕ, List, [], Option, Some, None, unwrap_or}
 use Rattle.instruments.specs.Seen.{SeenModel}
 use Rattle.net_graph.specs.declared.device.Device.{Device}
@@ -16,7 +17,8 @@ use Rattle.ijtag_stages.specs.SvfText.{svf_text}
 use Rattle.ijtag_stages.specs.TablesText.{tables_text}
 use Rattle.ijtag_stages.specs.Work.{give, never, ◌>>=◌}
 
--- the texts of a command by what they are, with the top module's name and the procedure's; a text that the command hasn't is None
+-- the texts of a command by what they are, with the top module's name and the procedure's; a text that the
+-- command hasn't is None
 pub record Texts : Type 0 where
   pub icl : List ℕ
   pub device : List ℕ
@@ -26,7 +28,8 @@ pub record Texts : Type 0 where
   pub pdl : Option (List ℕ)
   pub procedure : List ℕ
 
--- what they are accepted as: without tables no models, without SVF no text of it and no commands, without PDL no steps
+-- what they are accepted as: without tables no models, without SVF no text of it and no commands, without PDL
+-- no steps
 pub record SeenAccepted : Type 0 where
   pub network : NestedNet
   pub device : Device
@@ -61,7 +64,14 @@ accepted texts = do
   network ← network_below modules texts.top device
   models ← if_given tables (models_of network.net)
   steps ← if_given texts.pdl (followed network texts.procedure)
-  give (record { network = network; device = device; models = listed models; svf = listed texts.svf; commands = listed commands; steps = listed steps })
+  give (record {
+    network = network;
+    device = device;
+    models = listed models;
+    svf = listed texts.svf;
+    commands = listed commands;
+    steps = listed steps;
+  })
 
 abbrev pub accepted_of : Option Texts → Part SeenAccepted
 accepted_of None = never

@@ -1,7 +1,8 @@
 -- The exit status of the process: 0 to 6 in the order of the variants.
 use Rattle.std.specs.Prelude.{ℕ}
 use Rattle.ijtag_work.specs.declared.status.Status.{Status}
-use Rattle.ijtag_work.specs.declared.status.Status.TheVariants.{Good, Differs, Usage, Refused, ReadFault, WriteFault, OutOfMemory}
+use Rattle.ijtag_work.specs.declared.status.Status.TheVariants.{Good, Differs, Usage, Refused, ReadFault}
+use Rattle.ijtag_work.specs.declared.status.Status.TheVariants.{WriteFault, OutOfMemory}
 
 abbrev pub code_of : Status → ℕ
 code_of Good = 0

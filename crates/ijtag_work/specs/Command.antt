@@ -1,5 +1,6 @@
 -- The words that the program is called with.
-use Rattle.std.specs.Prelude.{ℕ, ◌==◌, nat_lt, Bool, true, false, ◌&&◌, ◌||◌, not, cond, List, [], ◌∷◌, ◌++◌, length, Option, Some, None, map, codes}
+use Rattle.std.specs.Prelude.{ℕ, ◌==◌, nat_lt, Bool, true, false, ◌&&◌, ◌||◌, not, cond, List, [], ◌∷◌, ◌++◌}
+use Rattle.std.specs.Prelude.{length, Option, Some, None, map, codes}
 use Rattle.std.specs.Char.{is_ascii_digit}
 use Rattle.std.specs.List.{list_all}
 use Rattle.std.specs.Str.{bytes_eq}
@@ -79,7 +80,8 @@ pub data Command : Type 0 where
 -- a decimal number of 1 to 19 digits, of which the first is 0 in `0` alone
 abbrev pub is_number : List ℕ → Bool
 is_number [] = false
-is_number (b ∷ bs) = is_ascii_digit b && list_all is_ascii_digit bs && nat_lt (length bs) 19 && (not (b == 48) || length bs == 0)
+is_number (b ∷ bs) = is_ascii_digit b && list_all is_ascii_digit bs && nat_lt
+    (length bs) 19 && (not (b == 48) || length bs == 0)
 
 abbrev pub number_of : List ℕ → Option ℕ
 number_of text = cond (is_number text) (Some (decimal_from 0 text)) None
@@ -94,20 +96,24 @@ procedure_of icl pdl device top name = record { network = network_of icl device 
 -- ---- the words after a command's name: exactly so many
 
 abbrev pub compile_of : List (List ℕ) → Option Command
-compile_of (icl ∷ pdl ∷ device ∷ top ∷ name ∷ svf ∷ []) = Some (Compiles (record { procedure = procedure_of icl pdl device top name; svf = svf }))
+compile_of (icl ∷ pdl ∷ device ∷ top ∷ name ∷ svf ∷ []) =
+    Some (Compiles (record { procedure = procedure_of icl pdl device top name; svf = svf }))
 compile_of _ = None
 
 abbrev pub play_of : List (List ℕ) → Option Command
-play_of (svf ∷ icl ∷ device ∷ tables ∷ top ∷ []) = Some (Plays (record { svf = svf; network = network_of icl device top; tables = tables }))
+play_of (svf ∷ icl ∷ device ∷ tables ∷ top ∷ []) =
+    Some (Plays (record { svf = svf; network = network_of icl device top; tables = tables }))
 play_of _ = None
 
 abbrev pub direct_of : List (List ℕ) → Option Command
-direct_of (icl ∷ pdl ∷ device ∷ tables ∷ top ∷ name ∷ []) = Some (Directs (record { procedure = procedure_of icl pdl device top name; tables = tables }))
+direct_of (icl ∷ pdl ∷ device ∷ tables ∷ top ∷ name ∷ []) =
+    Some (Directs (record { procedure = procedure_of icl pdl device top name; tables = tables }))
 direct_of _ = None
 
 abbrev pub run_of : List (List ℕ) → Option Command
 run_of (icl ∷ pdl ∷ device ∷ tables ∷ top ∷ name ∷ svf ∷ []) =
-    Some (Runs (record { direct = record { procedure = procedure_of icl pdl device top name; tables = tables }; svf = svf }))
+    Some (Runs (record
+    { direct = record { procedure = procedure_of icl pdl device top name; tables = tables }; svf = svf }))
 run_of _ = None
 
 abbrev pub made_by : Option ℕ → Option ℕ → List ℕ → Option Command
@@ -124,11 +130,13 @@ migrate_of (tables ∷ written ∷ []) = Some (Migrates (record { tables = table
 migrate_of _ = None
 
 abbrev pub audit_of : List (List ℕ) → Option Command
-audit_of (svf ∷ icl ∷ pdl ∷ device ∷ top ∷ name ∷ []) = Some (Audits (record { svf = svf; procedure = procedure_of icl pdl device top name }))
+audit_of (svf ∷ icl ∷ pdl ∷ device ∷ top ∷ name ∷ []) =
+    Some (Audits (record { svf = svf; procedure = procedure_of icl pdl device top name }))
 audit_of _ = None
 
 abbrev pub mux_test_of : List (List ℕ) → Option Command
-mux_test_of (icl ∷ device ∷ top ∷ svf ∷ []) = Some (MuxTests (record { network = network_of icl device top; svf = svf }))
+mux_test_of (icl ∷ device ∷ top ∷ svf ∷ []) =
+    Some (MuxTests (record { network = network_of icl device top; svf = svf }))
 mux_test_of _ = None
 
 -- the command that the first word names
@@ -152,7 +160,8 @@ command_in words = command_of (map string_bytes words)
 
 -- the four files of a made design
 abbrev pub made_names : List ℕ → List (List ℕ)
-made_names stem = (stem ++ codes ".icl") ∷ (stem ++ codes ".pdl") ∷ (stem ++ codes ".dev") ∷ (stem ++ codes ".tab") ∷ []
+made_names stem = (stem ++ codes ".icl") ∷ (stem ++ codes ".pdl")
+    ∷ (stem ++ codes ".dev") ∷ (stem ++ codes ".tab") ∷ []
 
 -- and that of its procedure's SVF
 abbrev pub made_svf : List ℕ → List ℕ

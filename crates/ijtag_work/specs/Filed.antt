@@ -11,7 +11,8 @@ use Rattle.ijtag_work.specs.Accepted.{SeenAccepted}
 
 -- there are plans for the bit steps of what is accepted
 abbrev pub HasPlans : SeenAccepted → Type 0
-HasPlans it = (xs : List PlannedStep) × AreStepsOf it.network.net it.network.form (start_holds it.network.net) it.steps xs
+HasPlans it = (xs : List PlannedStep)
+    × AreStepsOf it.network.net it.network.form (start_holds it.network.net) it.steps xs
 
 -- the file holds the text
 pub record IsFiled (work : Part (List ℕ)) (old new : Option Files) (name : List ℕ) : Type 0 where

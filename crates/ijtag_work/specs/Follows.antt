@@ -10,7 +10,8 @@ use Rattle.ijtag_work.specs.Stops.{Stop, Usage, Refuses, ReadFault, WriteFault, 
 use Rattle.ijtag_work.specs.declared.stop.Stop.{Stop as RustStop}
 
 -- a stop of work that is done while files are loaded
-abbrev pub IsLoadStop : {A : Type 0} → Option Files → List Load → (List ℕ → ℕ) → (List ℕ → ℕ) → Part A → Stop → Type 0
+abbrev pub IsLoadStop : {A : Type 0} → Option Files → List Load
+    → (List ℕ → ℕ) → (List ℕ → ℕ) → Part A → Stop → Type 0
 IsLoadStop files loads before now work (Refuses refusal) = work.refuses refusal
 IsLoadStop files loads before now work (ReadFault name) = IsReadFault files loads before now name
 IsLoadStop files loads before now work NoMemory = Unit {0}
@@ -19,9 +20,11 @@ IsLoadStop files loads before now work (WriteFault name) = ⊥
 IsLoadStop files loads before now work OutputFault = ⊥
 
 -- a call that loads these files and follows the work
-abbrev pub LoadsAndFollows : {A B : Type 0} → Option Files → List Load → (List ℕ → ℕ) → (List ℕ → ℕ) → Part B → (A → B) → Result A RustStop → Type 0
+abbrev pub LoadsAndFollows : {A B : Type 0} → Option Files → List Load → (List ℕ → ℕ) → (List ℕ → ℕ)
+    → Part B → (A → B) → Result A RustStop → Type 0
 LoadsAndFollows files loads before now work view (Ok a) = work.gives (view a)
-LoadsAndFollows files loads before now work view (Err stop) = IsLoadStop files loads before now work (seen_stop stop)
+LoadsAndFollows files loads before now work view (Err stop) =
+    IsLoadStop files loads before now work (seen_stop stop)
 
 -- ---- texts that were loaded
 

@@ -18,7 +18,8 @@ use Rattle.net_bench.specs.Bench.{fault_free}
 use Rattle.net_bench.specs.Playing.{Compare}
 use Rattle.pdl_meaning.specs.Direct.{Direct, direct}
 use Rattle.headline.specs.Headline.{at_end, compared}
-use Rattle.headline.specs.Retargeting.{IsRetargetable, IsRetargeted, PlannedStep, StepsArePlanned, script_of, seen_of}
+use Rattle.headline.specs.Retargeting.{IsRetargetable, IsRetargeted, PlannedStep, StepsArePlanned, script_of}
+use Rattle.headline.specs.Retargeting.{seen_of}
 use Rattle.bench_report.specs.Report.{differs_of}
 use Rattle.run_report.specs.Places.{places}
 use Rattle.direct_report.specs.Report.{direct_differs}
@@ -31,21 +32,24 @@ with_counts d = record { holds = d.holds; insts = map tallied d.insts; reads = d
 -- the direct meaning that counts events finds and leaves the same as the one that keeps their lists
 abbrev pub MeaningsAreCounted : Type 0
 MeaningsAreCounted =
-    (net : Net) (machines : List Machine) (steps : List SeenStep) → direct count_log net machines steps ≡ with_counts (direct whole_log net machines steps)
+    (net : Net) (machines : List Machine) (steps : List SeenStep)
+    → direct count_log net machines steps ≡ with_counts (direct whole_log net machines steps)
 
--- where bytes are the text of a procedure's bit steps, some compare of their play differs exactly where some read of the procedure's
--- direct meaning does
+-- where bytes are the text of a procedure's bit steps, some compare of their play differs exactly where some
+-- read of the procedure's direct meaning does
 abbrev pub RunsDifferAlike : Type 0
 RunsDifferAlike =
-    (net : Net) (form : Items) (device : Device) (models : List SeenModel) (steps : List SeenStep) (bytes : List ℕ) (commands : List SeenCommand)
+    (net : Net) (form : Items) (device : Device) (models : List SeenModel) (steps : List SeenStep)
+    (bytes : List ℕ) (commands : List SeenCommand)
     → IsRetargeted net form device steps bytes → svf bytes ≡ Ok commands
     → is_empty (differs_of net device models commands) ≡ is_empty (direct_differs net models steps)
 
--- What a play of planned steps from power-up compares are the reads of the steps, at their places, with the values that the direct
--- meaning finds, whatever the instruments are.
+-- What a play of planned steps from power-up compares are the reads of the steps, at their places, with the
+-- values that the direct meaning finds, whatever the instruments are.
 abbrev pub ReadsAreCompared : Type 0
 ReadsAreCompared =
-    (net : Net) (form : Items) (device : Device) (machines : List Machine) (plans : List PlannedStep) → IsRetargetable net form → IsDevice device → StepsArePlanned net form (start_holds net) plans
+    (net : Net) (form : Items) (device : Device) (machines : List Machine) (plans : List PlannedStep)
+    → IsRetargetable net form → IsDevice device → StepsArePlanned net form (start_holds net) plans
     → let chip = fault_free whole_log net device machines in
     let script = script_of net (start_holds net) plans in
     AreComparedAt (places net plans) (at_end chip script).reads (compared chip script)
@@ -53,15 +57,21 @@ ReadsAreCompared =
 -- so each compare is of one read: the one that stands at its scan and position
 abbrev pub ComparesAreNamed : Type 0
 ComparesAreNamed =
-    (net : Net) (form : Items) (device : Device) (machines : List Machine) (plans : List PlannedStep) → IsRetargetable net form → IsDevice device → StepsArePlanned net form (start_holds net) plans
+    (net : Net) (form : Items) (device : Device) (machines : List Machine) (plans : List PlannedStep)
+    → IsRetargetable net form → IsDevice device → StepsArePlanned net form (start_holds net) plans
     → let chip = fault_free whole_log net device machines in
     let script = script_of net (start_holds net) plans in
-    (c : Compare) → Contains (compared chip script) c → IsNamed (places net plans) (at_end chip script).reads c
+    (c : Compare) → Contains (compared chip script) c
+    → IsNamed (places net plans) (at_end chip script).reads c
 
--- Where bytes are the text of a procedure's bit steps, each compare of their play that differs is of the read that stands at its
--- place in the plans of these steps, and the value found there is the one that the procedure's direct meaning finds for this read.
+-- Where bytes are the text of a procedure's bit steps, each compare of their play that differs is of the read
+-- that stands at its place in the plans of these steps, and the value found there is the one that the
+-- procedure's direct meaning finds for this read.
 abbrev pub DiffersAreNamed : Type 0
 DiffersAreNamed =
-    (net : Net) (form : Items) (device : Device) (models : List SeenModel) (steps : List SeenStep) (bytes : List ℕ) (commands : List SeenCommand) (plans : List PlannedStep)
-    → IsRetargeted net form device steps bytes → svf bytes ≡ Ok commands → StepsArePlanned net form (start_holds net) plans → map seen_of plans ≡ steps
-    → (c : Compare) → Contains (differs_of net device models commands) c → IsNamed (places net plans) (direct count_log net (map machine_of models) steps).reads c
+    (net : Net) (form : Items) (device : Device) (models : List SeenModel) (steps : List SeenStep)
+    (bytes : List ℕ) (commands : List SeenCommand) (plans : List PlannedStep)
+    → IsRetargeted net form device steps bytes → svf bytes ≡ Ok commands
+    → StepsArePlanned net form (start_holds net) plans → map seen_of plans ≡ steps
+    → (c : Compare) → Contains (differs_of net device models commands) c
+    → IsNamed (places net plans) (direct count_log net (map machine_of models) steps).reads c

@@ -25,7 +25,8 @@ names_of (load ∷ loads) = load.name ∷ names_of loads
 unfoldable pub loaded_one : Option Files → Load → Part (List ℕ)
 loaded_one files load = record {
   gives = λ text. (length text ≤ load.limit) × IfSome files (λ f. text ≡ bytes_of f load.name);
-  refuses = λ r. (r ≡ refused_name File (codes "Long") load.name) × IfSome files (λ f. load.limit < length (bytes_of f load.name));
+  refuses = λ r. (r ≡ refused_name File (codes "Long") load.name)
+      × IfSome files (λ f. load.limit < length (bytes_of f load.name));
 }
 
 abbrev pub loaded : Option Files → List Load → Part (List (List ℕ))

@@ -1,5 +1,5 @@
--- Where a play compares the reads of a procedure, and which read is named at a compare (IEEE 1687-2014, PDL level 0: iRead; Serial
--- Vector Format, revision E: TDO and MASK).
+-- Where a play compares the reads of a procedure, and which read is named at a compare (IEEE 1687-2014, PDL
+-- level 0: iRead; Serial Vector Format, revision E: TDO and MASK).
 use Rattle.std.specs.Prelude.{◌≡◌, ◌↔◌, ℕ, Bool, List, [], ◌∷◌, map, Some, Contains, slice_get}
 use Rattle.net_bench.specs.Playing.{Compare}
 use Rattle.net_graph.specs.declared.step.ReadBit.{ReadBit}
@@ -17,12 +17,14 @@ compares_at (p ∷ ps) [] = []
 compares_at (p ∷ ps) (r ∷ rs) = compare_at p r ∷ compares_at ps rs
 
 -- the places are those of the reads, in their order, and the reads are compared there, and nothing else is
-pub record AreComparedAt (places : List ReadPlace) (reads : List (ReadBit × Bool)) (compares : List Compare) : Type 0 where
+pub record AreComparedAt (places : List ReadPlace) (reads : List (ReadBit × Bool))
+    (compares : List Compare) : Type 0 where
   pub in_order : map (λ p. p.read) places ≡ map (λ r. r.0) reads
   pub compared : (c : Compare) → Contains compares c ↔ Contains (compares_at places reads) c
 
--- A compare, and the read that is named by its scan and position: the expectation is that of the read, and the value found is
--- the one that was found for this read, where the read at an index has the place at the same index.
+-- A compare, and the read that is named by its scan and position: the expectation is that of the read, and
+-- the value found is the one that was found for this read, where the read at an index has the place at the
+-- same index.
 pub record IsNamed (places : List ReadPlace) (reads : List (ReadBit × Bool)) (c : Compare) : Type 0 where
   pub read : ReadBit
   pub named : read_at places c.scan c.bit ≡ Some read

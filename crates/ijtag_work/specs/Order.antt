@@ -1,6 +1,8 @@
--- The table of commands: the texts that each accepts, what it writes and prints, and what it leaves of what they are accepted as. How they
--- are loaded and accepted is said once for all commands: see Inputs and Accepted.
-use Rattle.std.specs.Prelude.{◌≡◌, ◌⊎◌, ◌<◌, ◌≤◌, ◌++◌, ℕ, Bool, true, false, List, [], ◌∷◌, length, Option, Some, None, Ok, codes}
+-- The table of commands: the texts that each accepts, what it writes and prints, and what it leaves of what
+-- they are accepted as. How they are loaded and accepted is said once for all commands: see Inputs and
+-- Accepted.
+use Rattle.std.specs.Prelude.{◌≡◌, ◌⊎◌, ◌<◌, ◌≤◌, ◌++◌, ℕ, Bool, true, false, List, [], ◌∷◌, length, Option}
+use Rattle.std.specs.Prelude.{Some, None, Ok, codes}
 use Rattle.svf_writer.specs.SeenCommands.{SeenCommand}
 use Rattle.table_file.specs.Tables.{SeenTable}
 use Rattle.net_bench.specs.Playing.{Compare}
@@ -23,7 +25,9 @@ use Rattle.ijtag_stages.specs.Refusals.{Part, refused_limit, refused_name, refus
 use Rattle.ijtag_stages.specs.TablesText.{tables_text}
 use Rattle.ijtag_stages.specs.declared.refusal.Stage.TheVariants.{File, Make as MakeStage, Muxtest}
 use Rattle.ijtag_work.specs.Accepted.{SeenAccepted, Texts, accepted_of}
-use Rattle.ijtag_work.specs.Command.{Command, Compile, Compiles, Play, Plays, Direct, Directs, Run, Runs, Make, Makes, made_names, made_svf, Migrate, Migrates, Audit, Audits, MuxTest, MuxTests}
+use Rattle.ijtag_work.specs.Command.{Command, Compile, Compiles, Play, Plays, Direct, Directs, Run, Runs}
+use Rattle.ijtag_work.specs.Command.{Make, Makes, made_names, made_svf, Migrate, Migrates, Audit, Audits}
+use Rattle.ijtag_work.specs.Command.{MuxTest, MuxTests}
 use Rattle.ijtag_work.specs.Leaves.{Leaves, Written}
 use Rattle.ijtag_work.specs.Inputs.{OfAudit, OfDirect, OfNetwork, OfPlay, OfProcedure}
 use Rattle.ijtag_work.specs.Loads.{source}
@@ -35,17 +39,23 @@ told text differs = record { files = []; printed = text; differs = differs }
 
 -- a file has it, and nothing is printed
 abbrev pub filed : List ℕ → List ℕ → Leaves
-filed name bytes = record { files = record { name = name; bytes = bytes } ∷ []; printed = []; differs = false }
+filed name bytes =
+    record { files = record { name = name; bytes = bytes } ∷ []; printed = []; differs = false }
 
 -- whether there is one
 abbrev pub any_differs : {A : Type 0} → List A → Bool
 any_differs [] = false
 any_differs (x ∷ xs) = true
 
--- ---- compile: the SVF file has the one text that is written for the bit steps: their scans, each round's as few as can be
+-- ---- compile: the SVF file has the one text that is written for the bit steps: their scans, each round's as
+-- few as can be
 
 unfoldable pub written_text : SeenAccepted → Part (List ℕ)
-written_text it = record { gives = λ bytes. DoSteps it.network.net it.network.form it.device it.steps bytes; refuses = λ r. ⊥ }
+written_text it = record {
+  gives =
+      λ bytes. DoSteps it.network.net it.network.form it.device it.steps bytes;
+  refuses = λ r. ⊥;
+}
 
 abbrev pub compiled : List ℕ → SeenAccepted → Part Leaves
 compiled name it = do
@@ -105,9 +115,14 @@ direct d = record {
 unfoldable pub commands_of : List ℕ → Part (List SeenCommand)
 commands_of bytes = record { gives = λ commands. svf bytes ≡ Ok commands; refuses = λ r. ⊥ }
 
--- the report of the play, in which each compare that differs names the iRead of the bit steps that stands at its place
+-- the report of the play, in which each compare that differs names the iRead of the bit steps that stands at
+-- its place
 unfoldable pub run_report : SeenAccepted → List SeenCommand → Part (List ℕ)
-run_report it commands = record { gives = λ text. IsRunReport it.network.net it.network.form it.device it.models it.steps commands text; refuses = λ r. ⊥ }
+run_report it commands = record {
+  gives = λ text. IsRunReport it.network.net it.network.form it.device
+      it.models it.steps commands text;
+  refuses = λ r. ⊥;
+}
 
 -- whether a compare of the play differs
 abbrev pub run_differs : SeenAccepted → List SeenCommand → Bool
@@ -115,7 +130,8 @@ run_differs it commands = any_differs (differs_at it commands)
 
 -- the file has the text, and the report is printed
 abbrev pub ran : List ℕ → List ℕ → List ℕ → Bool → Leaves
-ran name bytes text differs = record { files = record { name = name; bytes = bytes } ∷ []; printed = text; differs = differs }
+ran name bytes text differs =
+    record { files = record { name = name; bytes = bytes } ∷ []; printed = text; differs = differs }
 
 unfoldable pub run_of : List ℕ → SeenAccepted → Part Leaves
 run_of name it = do
@@ -151,7 +167,8 @@ audit a = record {
   leaves = λ it. give (audited it);
 }
 
--- ---- make: the size, then four files are written; their texts are accepted as those of a run, and of its play the totals are printed
+-- ---- make: the size, then four files are written; their texts are accepted as those of a run, and of its
+-- play the totals are printed
 
 -- the four texts of a made design
 abbrev pub made_texts : Make → List (List ℕ)
@@ -187,7 +204,15 @@ taken (w ∷ ws) = do
 -- they are the texts of a direct
 abbrev pub made_inputs : List (List ℕ) → Option Texts
 made_inputs (icl ∷ pdl ∷ device ∷ tables ∷ []) =
-    Some (record { icl = icl; device = device; tables = Some tables; svf = None; top = codes "chip"; pdl = Some pdl; procedure = codes "p" })
+    Some (record {
+      icl = icl;
+      device = device;
+      tables = Some tables;
+      svf = None;
+      top = codes "chip";
+      pdl = Some pdl;
+      procedure = codes "p";
+    })
 made_inputs _ = None
 
 -- what they are accepted as
@@ -198,7 +223,8 @@ accepted_made ws = do
 
 -- the files are there, and the totals are printed
 abbrev pub made : List Written → List ℕ → List ℕ → List ℕ → Bool → Leaves
-made files svf bytes text differs = record { files = files ++ record { name = svf; bytes = bytes } ∷ []; printed = text; differs = differs }
+made files svf bytes text differs =
+    record { files = files ++ record { name = svf; bytes = bytes } ∷ []; printed = text; differs = differs }
 
 -- the line of the design: the groups of its procedure are the rounds of all its iApplys
 unfoldable pub made_totals : SeenAccepted → List SeenCommand → List ℕ
@@ -238,15 +264,25 @@ migrate_work m texts = do
   give (filed m.written (written_tables tables))
 
 abbrev pub migrate : Migrate → Task
-migrate m = record { loads = source m.tables ∷ []; begins = never; first_writes = []; writes = m.written ∷ []; prints = false; work_on = migrate_work m }
+migrate m = record {
+  loads = source m.tables ∷ [];
+  begins = never;
+  first_writes =
+      [];
+  writes = m.written ∷ [];
+  prints = false;
+  work_on = migrate_work m;
+}
 
--- ---- mux test: the SVF file has the text of the test of the network's multiplexers, and its report is printed
+-- ---- mux test: the SVF file has the text of the test of the network's multiplexers, and its report is
+-- printed
 
 -- a test isn't too long
 unfoldable pub within_limit : SeenAccepted → Part (Unit {0})
 within_limit it = record {
   gives = λ _. IsWithinLimit it.network.net it.network.form;
-  refuses = λ r. (8192 < length (scanned it.network.net it.network.form)) × (r ≡ refused_limit Muxtest (codes "Scans") 8192);
+  refuses = λ r. (8192 < length (scanned it.network.net it.network.form))
+      × (r ≡ refused_limit Muxtest (codes "Scans") 8192);
 }
 
 unfoldable pub test_text_of : SeenAccepted → List ℕ

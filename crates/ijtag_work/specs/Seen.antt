@@ -4,7 +4,8 @@ use Rattle.ij_io.specs.declared.fault.StoreFault.{StoreFault}
 use Rattle.ij_io.specs.declared.fault.StoreFault.TheVariants.{Failed, OutOfMemory as NoStore}
 use Rattle.ijtag_stages.specs.Seen.{seen_refusal}
 use Rattle.ijtag_stages.specs.declared.refusal.StageFault.{StageFault}
-use Rattle.ijtag_stages.specs.declared.refusal.StageFault.TheVariants.{Refused as RefusedStage, OutOfMemory as MemoryStage}
+use Rattle.ijtag_stages.specs.declared.refusal.StageFault.TheVariants.{Refused as RefusedStage}
+use Rattle.ijtag_stages.specs.declared.refusal.StageFault.TheVariants.{OutOfMemory as MemoryStage}
 use Rattle.ijtag_work.specs.Loads.{Load, source, svf_file}
 use Rattle.ijtag_work.specs.Stops.{Stop, Usage, Refuses, ReadFault, WriteFault, OutputFault, NoMemory}
 use Rattle.ijtag_work.specs.declared.load.Load.{Load as LoadWords}
@@ -13,7 +14,11 @@ use Rattle.ijtag_work.specs.declared.names.MadeName.{MadeName}
 use Rattle.ijtag_work.specs.declared.status.Verdict.{Verdict}
 use Rattle.ijtag_work.specs.declared.status.Verdict.TheVariants.{Agrees as Agreeing, Differs as Differing}
 use Rattle.ijtag_work.specs.declared.stop.Stop.{Stop as RustStop}
-use Rattle.ijtag_work.specs.declared.stop.Stop.TheVariants.{Usage as UsageStop, Refused as RefusedStop, ReadFault as ReadStop, WriteFault as WriteStop, WriteMade as WriteMadeStop, OutputFault as OutputStop, OutOfMemory as MemoryStop}
+use Rattle.ijtag_work.specs.declared.stop.Stop.TheVariants.{Usage as UsageStop, Refused as RefusedStop}
+use Rattle.ijtag_work.specs.declared.stop.Stop.TheVariants.{ReadFault as ReadStop, WriteFault as WriteStop}
+use Rattle.ijtag_work.specs.declared.stop.Stop.TheVariants.{WriteMade as WriteMadeStop}
+use Rattle.ijtag_work.specs.declared.stop.Stop.TheVariants.{OutputFault as OutputStop}
+use Rattle.ijtag_work.specs.declared.stop.Stop.TheVariants.{OutOfMemory as MemoryStop}
 
 abbrev pub seen_load : LoadWords → Load
 seen_load (SourceLoad name) = source name.now

@@ -3,7 +3,10 @@ use Rattle.std.specs.Prelude.{ℕ, List, [], ◌∷◌, codes}
 use Rattle.ij_io.specs.Bytes.{concat}
 use Rattle.ijtag_stages.specs.Refusals.{Refusal, refusal_text}
 use Rattle.ijtag_work.specs.declared.status.Status.{Status}
-use Rattle.ijtag_work.specs.declared.status.Status.TheVariants.{Usage as UsageStatus, Refused, ReadFault as ReadStatus, WriteFault as WriteStatus, OutOfMemory as MemoryStatus}
+use Rattle.ijtag_work.specs.declared.status.Status.TheVariants.{Usage as UsageStatus, Refused}
+use Rattle.ijtag_work.specs.declared.status.Status.TheVariants.{ReadFault as ReadStatus}
+use Rattle.ijtag_work.specs.declared.status.Status.TheVariants.{WriteFault as WriteStatus}
+use Rattle.ijtag_work.specs.declared.status.Status.TheVariants.{OutOfMemory as MemoryStatus}
 
 pub data Stop : Type 0 where
   -- the words are no command

@@ -1,4 +1,5 @@
--- A row of a program's table of commands: what is loaded, written and printed, and the work on the texts that were loaded.
+-- A row of a program's table of commands: what is loaded, written and printed, and the work on the texts that
+-- were loaded.
 use Rattle.std.specs.Prelude.{ℕ, Bool, List, [], Option}
 use Rattle.ij_io.specs.Files.{Files}
 use Rattle.ijtag_stages.specs.Refusals.{Part}
@@ -26,7 +27,8 @@ work files task = do
   texts ← loaded files task.loads
   task.work_on texts
 
--- ---- a command that accepts texts, and writes and prints nothing before: its texts, and what it leaves of what they are accepted as
+-- ---- a command that accepts texts, and writes and prints nothing before: its texts, and what it leaves of
+-- what they are accepted as
 
 pub record Row : Type 1 where
   pub inputs : Inputs
@@ -40,4 +42,12 @@ row_work row texts = do
   row.leaves it
 
 abbrev pub task_of : Row → Task
-task_of row = record { loads = loads_of row.inputs; begins = never; first_writes = []; writes = row.writes; prints = row.prints; work_on = row_work row }
+task_of row = record {
+  loads = loads_of row.inputs;
+  begins = never;
+  first_writes =
+      [];
+  writes = row.writes;
+  prints = row.prints;
+  work_on = row_work row;
+}

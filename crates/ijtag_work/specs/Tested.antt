@@ -15,18 +15,24 @@ use Rattle.ijtag_work.specs.Command.{Command, MuxTest, MuxTests}
 use Rattle.ijtag_work.specs.Order.{mux_test, test_text_of}
 use Rattle.ijtag_work.specs.Promises.{AcceptedWith}
 
--- In the text of the test a reader of SVF finds its commands. Played clock by clock from power-up, whatever the instruments are, no
--- compare of them differs, no instrument has an event, and each bit that selects nothing ends as it began. Where a multiplexer always
--- passes on the same row, and the test sees it, some compare differs. And each row of each multiplexer is gone through.
+-- In the text of the test a reader of SVF finds its commands. Played clock by clock from power-up, whatever
+-- the instruments are, no compare of them differs, no instrument has an event, and each bit that selects
+-- nothing ends as it began. Where a multiplexer always passes on the same row, and the test sees it, some
+-- compare differs. And each row of each multiplexer is gone through.
 pub record TestsRight (it : SeenAccepted) : Type 0 where
-  pub read_again : svf (test_text it.network.net it.network.form it.device) ≡ Ok (test_commands it.network.net it.network.form it.device)
+  pub read_again : svf (test_text it.network.net it.network.form it.device)
+      ≡ Ok (test_commands it.network.net it.network.form it.device)
   pub quiet : (machines : List Machine) → IsQuiet it.network.net it.network.form it.device machines
   pub found : (machines : List Machine) (b : Branch) → is_seen_in_test it.network.net it.network.form b ≡ true
-      → 1 ≤ length (differing (compared (stuck whole_log it.network.net it.device machines b) it.network.form))
-  pub reached : AreReached it.network.net it.network.form (start_holds it.network.net) (tested it.network.net it.network.form)
+      → 1 ≤ length
+      (differing (compared (stuck whole_log it.network.net it.device machines b) it.network.form))
+  pub reached : AreReached it.network.net it.network.form
+      (start_holds it.network.net) (tested it.network.net it.network.form)
 
--- where the texts are accepted as a network and a device: the SVF file holds the text of this network's test, of which this holds
-pub record HasRightTest (files : Option Files) (svf : Option (Option (List ℕ))) (it : SeenAccepted) : Type 0 where
+-- where the texts are accepted as a network and a device: the SVF file holds the text of this network's test,
+-- of which this holds
+pub record HasRightTest (files : Option Files)
+    (svf : Option (Option (List ℕ))) (it : SeenAccepted) : Type 0 where
   pub written : svf ≡ option_map (λ _. Some (test_text_of it)) files
   pub right : TestsRight it
 

@@ -1,5 +1,7 @@
--- Texts and what they are accepted as, as contracts see them: with plain lists; and what is known of what is accepted.
-use Rattle.std.specs.Prelude.{◌≡◌, ◌<◌, ◌≤◌, ◌^◌, ℕ, Bool, true, false, List, length, map, Option, Some, None, IfSome, Ok}
+-- Texts and what they are accepted as, as contracts see them: with plain lists; and what is known of what is
+-- accepted.
+use Rattle.std.specs.Prelude.{◌≡◌, ◌<◌, ◌≤◌, ◌^◌, ℕ, Bool, true, false, List, length, map, Option, Some, None}
+use Rattle.std.specs.Prelude.{IfSome, Ok}
 use Rattle.std.specs.Option.{option_map}
 use Rattle.merge_order.specs.BitSteps.{bit_steps}
 use Rattle.ij_text.specs.Numbering.{AreDistinct}
@@ -92,8 +94,8 @@ pub record ComesToItsEnd (network : Network) (p : Procedure) : Type 0 where
   pub few : length p.procs.procs.items < 2 ^ 32
   pub ends : (bit_steps (seen_procs p.procs) network.net network.form p.name.items).fault ≡ None
 
--- what is known of what is accepted: a lawful network, a device, a model for each instrument, commands that can be played, a
--- procedure that comes to its end
+-- what is known of what is accepted: a lawful network, a device, a model for each instrument, commands that
+-- can be played, a procedure that comes to its end
 pub record IsUsable (it : Accepted) : Type 0 where
   pub nested : IsNested it.network.net it.network.form
   pub device : IsDevice it.device

@@ -1,5 +1,7 @@
 -- The words of the program as contracts see them: with plain lists.
-use Rattle.ijtag_work.specs.Command.{Command, Network, Procedure, Compile, Play, Direct, Run, Make, Migrate, Audit, MuxTest, Compiles, Plays, Directs, Runs, Makes, Migrates, Audits, MuxTests}
+use Rattle.ijtag_work.specs.Command.{Command, Network, Procedure, Compile, Play, Direct, Run, Make, Migrate}
+use Rattle.ijtag_work.specs.Command.{Audit, MuxTest, Compiles, Plays, Directs, Runs, Makes, Migrates, Audits}
+use Rattle.ijtag_work.specs.Command.{MuxTests}
 use Rattle.ijtag_work.specs.declared.inputs.NetworkWords.{NetworkWords}
 use Rattle.ijtag_work.specs.declared.inputs.ProcedureWords.{ProcedureWords}
 use Rattle.ijtag_work.specs.declared.inputs.DirectWords.{DirectWords}
@@ -11,19 +13,27 @@ use Rattle.ijtag_work.specs.declared.words.MakeWords.{MakeWords}
 use Rattle.ijtag_work.specs.declared.words.MigrateWords.{MigrateWords}
 use Rattle.ijtag_work.specs.declared.words.MuxTestWords.{MuxTestWords}
 use Rattle.ijtag_work.specs.declared.words.CommandWords.{CommandWords}
-use Rattle.ijtag_work.specs.declared.words.CommandWords.TheVariants.{Compile as CompileCommand, Play as PlayCommand, Direct as DirectCommand, Run as RunCommand, Make as MakeCommand, Migrate as MigrateCommand, Audit as AuditCommand, MuxTest as MuxTestCommand}
+use Rattle.ijtag_work.specs.declared.words.CommandWords.TheVariants.{Compile as CompileCommand}
+use Rattle.ijtag_work.specs.declared.words.CommandWords.TheVariants.{Play as PlayCommand}
+use Rattle.ijtag_work.specs.declared.words.CommandWords.TheVariants.{Direct as DirectCommand}
+use Rattle.ijtag_work.specs.declared.words.CommandWords.TheVariants.{Run as RunCommand, Make as MakeCommand}
+use Rattle.ijtag_work.specs.declared.words.CommandWords.TheVariants.{Migrate as MigrateCommand}
+use Rattle.ijtag_work.specs.declared.words.CommandWords.TheVariants.{Audit as AuditCommand}
+use Rattle.ijtag_work.specs.declared.words.CommandWords.TheVariants.{MuxTest as MuxTestCommand}
 
 abbrev pub seen_network : NetworkWords → Network
 seen_network words = record { icl = words.icl.now; device = words.device.now; top = words.top.now }
 
 abbrev pub seen_procedure : ProcedureWords → Procedure
-seen_procedure words = record { network = seen_network words.network; pdl = words.pdl.now; name = words.name.now }
+seen_procedure words =
+    record { network = seen_network words.network; pdl = words.pdl.now; name = words.name.now }
 
 abbrev pub seen_compile : CompileWords → Compile
 seen_compile words = record { procedure = seen_procedure words.procedure; svf = words.svf.now }
 
 abbrev pub seen_play : PlayWords → Play
-seen_play words = record { svf = words.svf.now; network = seen_network words.network; tables = words.tables.now }
+seen_play words =
+    record { svf = words.svf.now; network = seen_network words.network; tables = words.tables.now }
 
 abbrev pub seen_direct : DirectWords → Direct
 seen_direct words = record { procedure = seen_procedure words.procedure; tables = words.tables.now }

@@ -13,7 +13,8 @@ ghost use Rattle.ijtag_stages.specs.SvfText.{svf_text};
 ghost use Rattle.ijtag_stages.specs.Seen.{seen_network};
 ghost use Rattle.ijtag_stages.specs.TablesText.{tables_text};
 ghost use Rattle.ijtag_work.specs.Accepted.{accepted, followed, if_given, listed};
-ghost use Rattle.ijtag_work.specs.Using.{ArePlayable, AreShortTexts, CanUse, ComesToItsEnd, IsShort, IsUsable, seen_accepted, seen_named, needs_of, steps_of, there};
+ghost use Rattle.ijtag_work.specs.Using.{ArePlayable, AreShortTexts, CanUse, ComesToItsEnd, IsShort};
+ghost use Rattle.ijtag_work.specs.Using.{IsUsable, seen_accepted, seen_named, needs_of, steps_of, there};
 
 use bench_file::{Fitted, Table};
 use ij_bits::List;
@@ -71,7 +72,8 @@ pub struct Accepted<'t> {
     pub procedure: Option<Procedure>,
 }
 
-/// Written out, so that a crate that drops it calls this, and doesn't prove the drop of each part of it again.
+/// Written out, so that a crate that drops it calls this, and doesn't prove the drop of each part of it
+/// again.
 impl<'t> Drop for Accepted<'t> {
     fn drop(self) {
         let Accepted {
@@ -142,9 +144,11 @@ impl<'t> Accepted<'t> {
 #[tactic(auto, unfolding(crate::specs::Accepted::if_given))]
 fn read_given_tables(alloc: Global, text: Option<&[u8]>) -> Result<Option<List<Table>>, StageFault>
     requires short { IfSome text (λ t. length t.now ≤ 134217728) }
-    ensures follows { Follows (if_given (option_map (λ t. t.now) text.entry) tables_text) (option_map seen_tables) result }
+    ensures follows { Follows (if_given (option_map (λ t. t.now) text.entry) tables_text)
+        (option_map seen_tables) result }
     ensures given { IfOk result (λ tables. there tables ≡ there text.entry) }
-    ensures models { IfOk result (λ tables. IfSome tables (λ ts. All (λ t. IsModel (seen_model t.model)) ts.items)) }
+    ensures models { IfOk result
+        (λ tables. IfSome tables (λ ts. All (λ t. IsModel (seen_model t.model)) ts.items)) }
 {
     match text {
         None => Ok(None),
@@ -159,7 +163,8 @@ fn read_given_tables(alloc: Global, text: Option<&[u8]>) -> Result<Option<List<T
 #[tactic(auto, unfolding(crate::specs::Accepted::if_given, ijtag_stages::specs::SvfText::svf_text))]
 fn read_given_svf(alloc: Global, text: Option<&[u8]>) -> Result<Option<Commands>, StageFault>
     requires short { IfSome text (λ t. length t.now ≤ 134217728) }
-    ensures follows { Follows (if_given (option_map (λ t. t.now) text.entry) svf_text) (λ commands. commands) result }
+    ensures follows { Follows (if_given (option_map (λ t. t.now) text.entry) svf_text)
+        (λ commands. commands) result }
     ensures given { IfOk result (λ commands. there commands ≡ there text.entry) }
     ensures playable { IfOk result (λ commands. IfSome commands ArePlayable) }
     ensures read { IfOk result (λ commands. IfSome text.entry (λ t. svf t.now ≡ Ok (listed commands))) }
@@ -182,7 +187,8 @@ fn fit_given(
 ) -> Result<Option<Fitted>, StageFault>
     requires net { IsNet net.now }
     requires tables { IfSome tables.now (λ ts. All (λ t. IsModel (seen_model t.model)) ts.items) }
-    ensures follows { Follows (if_given (option_map seen_tables tables.now) (models_of net.now)) (option_map (λ ms. map seen_model ms)) result }
+    ensures follows { Follows (if_given (option_map seen_tables tables.now) (models_of net.now))
+        (option_map (λ ms. map seen_model ms)) result }
     ensures given { IfOk result (λ models. there models ≡ there tables.now) }
     ensures models { IfOk result (λ models. IfSome models (AreModels net.now)) }
 {
@@ -200,7 +206,8 @@ fn fit_given(
 fn follow(alloc: Global, network: &Network, pdl: &[u8], name: &str) -> Result<Procedure, StageFault>
     requires net { IsNet network.now.net }
     requires short { length pdl.now ≤ 134217728 }
-    ensures follows { Follows (followed (seen_network network.now) name.now pdl.now) (steps_of network.now) result }
+    ensures follows { Follows (followed (seen_network network.now) name.now pdl.now)
+        (steps_of network.now) result }
     ensures ends { IfOk result (ComesToItsEnd network.now) }
 {
     let procs = read_pdl(alloc, pdl)?;
@@ -219,7 +226,8 @@ fn follow_given(
 ) -> Result<Option<Procedure>, StageFault>
     requires net { IsNet network.now.net }
     requires short { IfSome pdl (λ t. length t.now ≤ 134217728) }
-    ensures follows { Follows (if_given (option_map (λ t. t.now) pdl.entry) (followed (seen_network network.now) name.now)) (option_map (steps_of network.now)) result }
+    ensures follows { Follows (if_given (option_map (λ t. t.now) pdl.entry)
+        (followed (seen_network network.now) name.now)) (option_map (steps_of network.now)) result }
     ensures given { IfOk result (λ procedure. there procedure ≡ there pdl.entry) }
     ensures ends { IfOk result (λ procedure. IfSome procedure (ComesToItsEnd network.now)) }
 {
@@ -232,9 +240,10 @@ fn follow_given(
     }
 }
 
-/// What the texts of a command are accepted as. They are read in one order, each where the command has it, and the first that isn't
-/// accepted decides: the ICL text, the device, the tables, the SVF text, then the network below the top module, whether the tables fit
-/// it, and the PDL text with its procedure, which is followed to its end.
+/// What the texts of a command are accepted as. They are read in one order, each where the command has it,
+/// and the first that isn't accepted decides: the ICL text, the device, the tables, the SVF text, then the
+/// network below the top module, whether the tables fit it, and the PDL text with its procedure, which is
+/// followed to its end.
 #[tactic(auto, unfolding(crate::specs::Accepted::accepted))]
 pub fn accept<'t>(alloc: Global, texts: &Texts<'t>) -> Result<Accepted<'t>, StageFault>
     requires { AreShortTexts (seen_named texts.now) }

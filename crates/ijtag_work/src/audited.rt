@@ -6,7 +6,8 @@ use svf_audit::{audits_law, planned_steps_pass};
 
 /// The text that a compile writes gets a yes from an audit for the same procedure.
 ///
-/// - `files`: where the audited file holds it, the work of the audit on these files is accepted, and ends without a difference.
+/// - `files`: where the audited file holds it, the work of the audit on these files is accepted, and ends
+///   without a difference.
 /// - `texts`: an audit of the commands that a reader finds in it says yes.
 pub fn own_texts_pass()
     ensures files { OwnTextsPass }

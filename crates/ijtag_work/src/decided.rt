@@ -9,8 +9,10 @@ use run_report::places_are_one;
 
 /// The work of a command on files comes to one end at most.
 ///
-/// - `decided`: what it leaves is one, where it leaves something, it meets no refusal, and the refusal that it meets is one.
-/// - `settled`: so two things that it may leave differ alike, which is all that a run of a command needs of its work.
+/// - `decided`: what it leaves is one, where it leaves something, it meets no refusal, and the refusal that
+///   it meets is one.
+/// - `settled`: so two things that it may leave differ alike, which is all that a run of a command needs of
+///   its work.
 pub fn works_are_decided()
     ensures decided { AreDecided task }
     ensures settled { AreSettled task }
@@ -20,8 +22,8 @@ pub fn works_are_decided()
     places_are_one();
 }
 
-/// The work of a command on files comes to an end: it can't be that it leaves nothing and meets no refusal. So a text is accepted or
-/// refused, and a command that is accepted has something to leave.
+/// The work of a command on files comes to an end: it can't be that it leaves nothing and meets no refusal.
+/// So a text is accepted or refused, and a command that is accepted has something to leave.
 pub fn works_are_total()
     ensures { AreTotal task }
 {

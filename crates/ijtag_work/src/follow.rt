@@ -19,7 +19,8 @@ pub fn steps_again<'a>(
 ) -> Result<BitSteps<'a>, OutOfMemory>
     requires net { IsNet network.now.net }
     requires ends { ComesToItsEnd network.now procedure.now }
-    ensures { IfOk result (λ steps. steps ≡ bit_steps (seen_procs procedure.now.procs) network.now.net network.now.form procedure.now.name.items) }
+    ensures { IfOk result (λ steps. steps ≡ bit_steps
+        (seen_procs procedure.now.procs) network.now.net network.now.form procedure.now.name.items) }
 {
     BitSteps::new(
         alloc,

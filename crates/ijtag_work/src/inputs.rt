@@ -1,8 +1,10 @@
-// The texts that commands accept: the words that name their files, how these are loaded, and which text is what.
+// The texts that commands accept: the words that name their files, how these are loaded, and which text is
+// what.
 ghost use Rattle.std.specs.Prelude.{◌≡◌, List, ℕ, Some, length, IfOk};
 ghost use Rattle.ij_io.specs.Causes.{SameCounts};
 ghost use Rattle.ijtag_work.specs.Follows.{LoadsAndFollows, AreTexts, seen_texts};
-ghost use Rattle.ijtag_work.specs.Inputs.{Inputs as NamedInputs, OfAudit, OfDirect, OfNetwork, OfPlay, OfProcedure, loads_of, texts_of};
+ghost use Rattle.ijtag_work.specs.Inputs.{Inputs as NamedInputs, OfAudit, OfDirect, OfNetwork, OfPlay};
+ghost use Rattle.ijtag_work.specs.Inputs.{OfProcedure, loads_of, texts_of};
 ghost use Rattle.ijtag_work.specs.Loads.{loaded, names_of};
 ghost use Rattle.ijtag_work.specs.Runs.{OnlyTheseRise};
 ghost use Rattle.ijtag_work.specs.Using.{AreShortTexts, needs_in, needs_of, seen_named};
@@ -19,14 +21,18 @@ pub trait Inputs<'a> {
     /// The words without where they lie in memory.
     ghost named: { Self → NamedInputs };
 
-    /// Loads the files in their order, each once, and stops at the first that can't be loaded or is too long. No file changes, and the
-    /// counts of no other names.
+    /// Loads the files in their order, each once, and stops at the first that can't be loaded or is too long.
+    /// No file changes, and the counts of no other names.
     fn load<S: Shelf>(&self, alloc: Global, shelf: &mut S) -> Result<Vec<Vec<u8>>, Stop<'a>>
-        ensures follows { LoadsAndFollows (S.files shelf.old) (loads_of (named self.now)) (S.load_faults shelf.old) (S.load_faults shelf.new)
-            (loaded (S.files shelf.old) (loads_of (named self.now))) (λ texts. seen_texts texts.items) result }
-        ensures texts { IfOk result (λ texts. AreTexts (length (loads_of (named self.now))) (seen_texts texts.items)) }
+        ensures follows { LoadsAndFollows (S.files shelf.old) (loads_of (named self.now))
+            (S.load_faults shelf.old) (S.load_faults shelf.new)
+            (loaded (S.files shelf.old) (loads_of (named self.now)))
+            (λ texts. seen_texts texts.items) result }
+        ensures texts { IfOk result
+            (λ texts. AreTexts (length (loads_of (named self.now))) (seen_texts texts.items)) }
         ensures files { S.files shelf.new ≡ S.files shelf.old }
-        ensures others { OnlyTheseRise (names_of (loads_of (named self.now))) (S.load_faults shelf.old) (S.load_faults shelf.new) }
+        ensures others { OnlyTheseRise (names_of (loads_of (named self.now)))
+            (S.load_faults shelf.old) (S.load_faults shelf.new) }
         ensures stores { SameCounts (S.store_faults shelf.old) (S.store_faults shelf.new) };
 
     /// The texts by what they are, of those that were loaded.

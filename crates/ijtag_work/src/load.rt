@@ -31,7 +31,8 @@ impl<'a> Load<'a> {
         }
     }
 
-    /// The most bytes that the file may have. One of exactly so many is accepted; a longer one is refused as `Long`.
+    /// The most bytes that the file may have. One of exactly so many is accepted; a longer one is refused as
+    /// `Long`.
     fn limit(&self) -> u32
         ensures { result ≡ (seen_load self.now).limit }
     {
@@ -48,12 +49,14 @@ fn load_one<'a, S: Shelf>(
     load: &Load<'a>,
     shelf: &mut S,
 ) -> Result<Vec<u8>, Stop<'a>>
-    ensures follows { LoadsAndFollows (S.files shelf.old) (seen_load load.now ∷ []) (S.load_faults shelf.old) (S.load_faults shelf.new)
+    ensures follows { LoadsAndFollows (S.files shelf.old) (seen_load load.now ∷ [])
+        (S.load_faults shelf.old) (S.load_faults shelf.new)
         (loaded_one (S.files shelf.old) (seen_load load.now)) (λ bytes. bytes.items) result }
     ensures fits { IfOk result (λ bytes. length bytes.items ≤ 134217728) }
     ensures files { S.files shelf.new ≡ S.files shelf.old }
     ensures later { (any : List ℕ) → S.load_faults shelf.old any ≤ S.load_faults shelf.new any }
-    ensures others { OnlyTheseRise ((seen_load load.now).name ∷ []) (S.load_faults shelf.old) (S.load_faults shelf.new) }
+    ensures others { OnlyTheseRise ((seen_load load.now).name ∷ [])
+        (S.load_faults shelf.old) (S.load_faults shelf.new) }
     ensures stores { SameCounts (S.store_faults shelf.old) (S.store_faults shelf.new) }
 {
     let name = load.name();
@@ -68,18 +71,20 @@ fn load_one<'a, S: Shelf>(
     }
 }
 
-/// Loads these files in their order, each once, and stops at the first that can't be loaded or is too long. No file changes,
-/// and the counts of no other names.
+/// Loads these files in their order, each once, and stops at the first that can't be loaded or is too long.
+/// No file changes, and the counts of no other names.
 pub fn load_all<'a, S: Shelf>(
     alloc: Global,
     loads: &[Load<'a>],
     shelf: &mut S,
 ) -> Result<Vec<Vec<u8>>, Stop<'a>>
-    ensures follows { LoadsAndFollows (S.files shelf.old) (map seen_load loads.now) (S.load_faults shelf.old) (S.load_faults shelf.new)
+    ensures follows { LoadsAndFollows (S.files shelf.old) (map seen_load loads.now)
+        (S.load_faults shelf.old) (S.load_faults shelf.new)
         (loaded (S.files shelf.old) (map seen_load loads.now)) (λ texts. seen_texts texts.items) result }
     ensures texts { IfOk result (λ texts. AreTexts (length loads.now) (seen_texts texts.items)) }
     ensures files { S.files shelf.new ≡ S.files shelf.old }
-    ensures others { OnlyTheseRise (names_of (map seen_load loads.now)) (S.load_faults shelf.old) (S.load_faults shelf.new) }
+    ensures others { OnlyTheseRise (names_of (map seen_load loads.now))
+        (S.load_faults shelf.old) (S.load_faults shelf.new) }
     ensures stores { SameCounts (S.store_faults shelf.old) (S.store_faults shelf.new) }
 {
     let mut texts = Vec::new(alloc);

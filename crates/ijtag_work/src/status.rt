@@ -9,12 +9,13 @@ ghost use Rattle.ijtag_work.specs.Seen.{differing};
 pub enum Status {
     /// All was written, and nothing differs.
     Good,
-    /// All was written, and a compare or a read differs. `compile`, `migrate` and `muxtest`, which compare nothing,
-    /// never end so.
+    /// All was written, and a compare or a read differs. `compile`, `migrate` and `muxtest`, which compare
+    /// nothing, never end so.
     Differs,
     /// The words are no command.
     Usage,
-    /// A file, a text or a size was refused. No file was begun, but the four of a `make` whose texts are refused, which stand whole.
+    /// A file, a text or a size was refused. No file was begun, but the four of a `make` whose texts are
+    /// refused, which stand whole.
     Refused,
     /// A file could not be read, and no file was begun.
     ReadFault,

@@ -119,8 +119,10 @@ fn put_named<'a, K: Sink>(text: &'a [u8], name: &'a str, k: &mut K) -> Result<()
 /// Prints the line of a store that failed under the name of a made design's file.
 #[tactic(auto, unfolding(ij_io::specs::Words::words_text))]
 fn put_write_made<K: Sink>(name: &MadeName<'_>, k: &mut K) -> Result<(), StoreFault>
-    ensures whole { OnOk result (Adds (K.taken k.old) (K.taken k.new) (named_line (codes "write fault ") (seen_made_name name.now))) }
-    ensures part { OnErr result (AddsPart (K.taken k.old) (K.taken k.new) (named_line (codes "write fault ") (seen_made_name name.now))) }
+    ensures whole { OnOk result
+        (Adds (K.taken k.old) (K.taken k.new) (named_line (codes "write fault ") (seen_made_name name.now))) }
+    ensures part { OnErr result (AddsPart (K.taken k.old) (K.taken k.new)
+        (named_line (codes "write fault ") (seen_made_name name.now))) }
     ensures cause { HasCause (K.faults k.old) (K.faults k.new) result StoreFault.Failed }
 {
     put_words(
@@ -137,8 +139,10 @@ fn put_write_made<K: Sink>(name: &MadeName<'_>, k: &mut K) -> Result<(), StoreFa
 /// Prints the line of a stop, of a program with this usage line.
 #[tactic(auto, unfolding(crate::specs::Stops::stop_text))]
 fn put_stop<K: Sink>(usage: &[u8], stop: &Stop<'_>, k: &mut K) -> Result<(), StoreFault>
-    ensures whole { OnOk result (Adds (K.taken k.old) (K.taken k.new) (stop_text usage.now (seen_stop stop.now))) }
-    ensures part { OnErr result (AddsPart (K.taken k.old) (K.taken k.new) (stop_text usage.now (seen_stop stop.now))) }
+    ensures whole { OnOk result
+        (Adds (K.taken k.old) (K.taken k.new) (stop_text usage.now (seen_stop stop.now))) }
+    ensures part { OnErr result
+        (AddsPart (K.taken k.old) (K.taken k.new) (stop_text usage.now (seen_stop stop.now))) }
     ensures cause { HasCause (K.faults k.old) (K.faults k.new) result StoreFault.Failed }
 {
     match stop {
@@ -152,11 +156,12 @@ fn put_stop<K: Sink>(usage: &[u8], stop: &Stop<'_>, k: &mut K) -> Result<(), Sto
     }
 }
 
-/// Prints the line of a stop on the error stream, of a program with this usage line, and gives its status. A fault of the
-/// stream changes no status, and want of memory there is want of memory of the run.
+/// Prints the line of a stop on the error stream, of a program with this usage line, and gives its status. A
+/// fault of the stream changes no status, and want of memory there is want of memory of the run.
 pub fn report<E: Sink>(usage: &[u8], stop: &Stop<'_>, err: &mut E) -> Status
     ensures status { IsOrMemory result (status_of (seen_stop stop.now)) }
-    ensures told { (result ≡ Status.OutOfMemory → ⊥) → Tells E.taken E.faults err.old err.new (stop_text usage.now (seen_stop stop.now)) }
+    ensures told { (result ≡ Status.OutOfMemory → ⊥)
+        → Tells E.taken E.faults err.old err.new (stop_text usage.now (seen_stop stop.now)) }
     ensures part { AddsPart (E.taken err.old) (E.taken err.new) (stop_text usage.now (seen_stop stop.now)) }
 {
     match put_stop(usage, stop, err) {

@@ -1,7 +1,8 @@
 // The words that the program is called with.
 ghost use Rattle.std.specs.Prelude.{◌≡◌, map, option_map};
 ghost use Rattle.std.specs.String.{string_bytes};
-ghost use Rattle.ijtag_work.specs.Command.{audit_of, command_in, compile_of, direct_of, make_of, migrate_of, mux_test_of, play_of, run_of};
+ghost use Rattle.ijtag_work.specs.Command.{audit_of, command_in, compile_of, direct_of, make_of, migrate_of};
+ghost use Rattle.ijtag_work.specs.Command.{mux_test_of, play_of, run_of};
 ghost use Rattle.ijtag_work.specs.Order.{migrate};
 ghost use Rattle.ijtag_work.specs.Seen.{seen_load};
 ghost use Rattle.ijtag_work.specs.Words.{seen_command, seen_migrate};

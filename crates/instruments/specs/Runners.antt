@@ -1,4 +1,5 @@
--- The instruments of a bench, each with its model, its state, the numbers at its inputs and the counts of its events.
+-- The instruments of a bench, each with its model, its state, the numbers at its inputs and the counts of its
+-- events.
 use Rattle.std.specs.Prelude.{◌≡◌, ℕ, List, map, length, get_or, replicate, All}
 use Rattle.instruments.specs.declared.Counts.{Counts}
 use Rattle.instruments.specs.declared.model.Model.{Model}

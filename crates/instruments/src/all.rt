@@ -74,7 +74,8 @@ fn captured_by_bits(sigs: &[Sig], holds: &Holds, models: &List<Model>, runners: 
     requires driven { All (IsDriven holds.now) sigs.now }
     requires models { All (λ m. IsModel (seen_model m)) models.now.items }
     requires count { length runners.now ≡ length models.now.items }
-    ensures value { result ≡ number_of (map (signal (outputs (machines_of models.now.items) (insts_of runners.now)) holds.now) sigs.now) }
+    ensures value { result ≡ number_of
+        (map (signal (outputs (machines_of models.now.items) (insts_of runners.now)) holds.now) sigs.now) }
     ensures small { result < 2 ^ length sigs.now }
 {
     match sigs {
@@ -92,7 +93,8 @@ fn output_bits(models: &List<Model>, runners: &[Runner], inst: u32, port: u32, n
     requires models { All (λ m. IsModel (seen_model m)) models.now.items }
     requires count { length runners.now ≡ length models.now.items }
     ensures small { result < 2 ^ n }
-    ensures bits { (pos : ℕ) → pos < n → (bit_at result pos == 1) ≡ outputs (machines_of models.now.items) (insts_of runners.now) inst port pos }
+    ensures bits { (pos : ℕ) → pos < n → (bit_at result pos == 1)
+        ≡ outputs (machines_of models.now.items) (insts_of runners.now) inst port pos }
 {
     let i = inst as usize;
     if i < models.len() {
@@ -105,14 +107,15 @@ fn output_bits(models: &List<Model>, runners: &[Runner], inst: u32, port: u32, n
     }
 }
 
-/// The number of up to 64 signals, the first one the lowest. Where they are bits of one register or of one output in a row, it
-/// is read at once. Takes no memory.
+/// The number of up to 64 signals, the first one the lowest. Where they are bits of one register or of one
+/// output in a row, it is read at once. Takes no memory.
 pub fn captured_number(sigs: &[Sig], holds: &Holds, models: &List<Model>, runners: &[Runner]) -> u64
     requires few { length sigs.now ≤ 64 }
     requires driven { All (IsDriven holds.now) sigs.now }
     requires models { All (λ m. IsModel (seen_model m)) models.now.items }
     requires count { length runners.now ≡ length models.now.items }
-    ensures { result ≡ number_of (map (signal (outputs (machines_of models.now.items) (insts_of runners.now)) holds.now) sigs.now) }
+    ensures { result ≡ number_of
+        (map (signal (outputs (machines_of models.now.items) (insts_of runners.now)) holds.now) sigs.now) }
 {
     match sigs {
         [Sig::Bit { bit, inverted: _ }, ..] if is_register_run(sigs, *bit) => register_number(
@@ -146,7 +149,8 @@ pub fn start(
     requires holds { AreHolds net.now holds.now }
     requires models { AreModels net.now models.now.items }
     ensures running { IfOk result (λ runners. AreRunning net.now models.now.items holds.now runners.items) }
-    ensures state { IfOk result (λ runners. insts_of runners.items ≡ fresh count_log (machines_of models.now.items)) }
+    ensures state { IfOk result
+        (λ runners. insts_of runners.items ≡ fresh count_log (machines_of models.now.items)) }
 {
     let mut runners = Vec::new(alloc);
     for i in 0..models.len() {
@@ -170,7 +174,9 @@ pub fn show_all(net: &Net, models: &List<Model>, holds: &Holds, runners: &mut [R
     requires models { AreModels net.now models.now.items }
     requires count { length runners.old ≡ length models.now.items }
     ensures running { AreRunning net.now models.now.items holds.now runners.new }
-    ensures state { (before : Held) → AreRunning net.now models.now.items before runners.old → insts_of runners.new ≡ changes count_log net.now (machines_of models.now.items) before holds.now (insts_of runners.old) }
+    ensures state { (before : Held)
+        → AreRunning net.now models.now.items before runners.old → insts_of runners.new
+        ≡ changes count_log net.now (machines_of models.now.items) before holds.now (insts_of runners.old) }
 {
     for i in 0..runners.len() {
         let now = inputs_of(net.insts.get(i), holds);
@@ -183,7 +189,9 @@ pub fn run_all(models: &List<Model>, runners: &mut [Runner])
     requires models { All (λ m. IsModel (seen_model m)) models.now.items }
     requires count { length runners.old ≡ length models.now.items }
     ensures shown { map (λ r. r.inputs) runners.new ≡ map (λ r. r.inputs) runners.old }
-    ensures state { (net : TheNet) (holds : Held) → AreRunning net models.now.items holds runners.old → insts_of runners.new ≡ all_have count_log net (machines_of models.now.items) Run holds (insts_of runners.old) }
+    ensures state { (net : TheNet) (holds : Held)
+        → AreRunning net models.now.items holds runners.old → insts_of runners.new
+        ≡ all_have count_log net (machines_of models.now.items) Run holds (insts_of runners.old) }
 {
     for i in 0..runners.len() {
         runners[i].run(models.get(i));
@@ -197,7 +205,8 @@ pub fn reset_all(net: &Net, models: &List<Model>, holds: &Holds, runners: &mut [
     requires models { AreModels net.now models.now.items }
     requires count { length runners.old ≡ length models.now.items }
     ensures running { AreRunning net.now models.now.items holds.now runners.new }
-    ensures state { insts_of runners.new ≡ all_have count_log net.now (machines_of models.now.items) Reset holds.now (insts_of runners.old) }
+    ensures state { insts_of runners.new
+        ≡ all_have count_log net.now (machines_of models.now.items) Reset holds.now (insts_of runners.old) }
 {
     for i in 0..runners.len() {
         let now = inputs_of(net.insts.get(i), holds);

@@ -72,8 +72,8 @@ fn number_by_bits(bits: &[Sig], holds: &Holds) -> u64
     }
 }
 
-/// The number that stands at an input port, its first bit the lowest. Where one register drives it, the number is read at
-/// once.
+/// The number that stands at an input port, its first bit the lowest. Where one register drives it, the
+/// number is read at once.
 fn port_number(bits: &[Sig], holds: &Holds) -> u64
     requires few { length bits.now ≤ 64 }
     requires driven { All (IsDriven holds.now) bits.now }
@@ -92,7 +92,8 @@ fn port_number(bits: &[Sig], holds: &Holds) -> u64
 /// The numbers at the inputs of an instrument, and 0 after them.
 pub(crate) fn inputs_of(inst: &Inst, holds: &Holds) -> [u64; 16]
     requires few { length inst.now.ins.items ≤ 16 }
-    requires ports { All (λ port. (length port.bits.items ≤ 64) × All (IsDriven holds.now) port.bits.items) inst.now.ins.items }
+    requires ports { All (λ port. (length port.bits.items ≤ 64)
+        × All (IsDriven holds.now) port.bits.items) inst.now.ins.items }
     ensures { StandFor result (port_numbers holds.now inst.now) }
 {
     let mut numbers = [0; 16];
@@ -107,7 +108,9 @@ impl Runner {
     pub(crate) fn show(&mut self, model: &Model, now: &[u64; 16])
         requires { IsModel (seen_model model.now) }
         ensures inputs { self.new.inputs ≡ now.now }
-        ensures state { (before after : Inputs) → StandFor self.old.inputs before → StandFor now.now after → length before ≡ length after → running_of self.new ≡ change_of count_log (machine_of (seen_model model.now)) before after (running_of self.old) }
+        ensures state { (before after : Inputs) → StandFor self.old.inputs before → StandFor now.now after
+            → length before ≡ length after → running_of self.new
+            ≡ change_of count_log (machine_of (seen_model model.now)) before after (running_of self.old) }
     {
         if !same(&self.inputs, now) {
             self.machine.change(model, &self.inputs, now);
@@ -120,7 +123,8 @@ impl Runner {
     pub(crate) fn run(&mut self, model: &Model)
         requires { IsModel (seen_model model.now) }
         ensures inputs { self.new.inputs ≡ self.old.inputs }
-        ensures state { (at : Inputs) → StandFor self.old.inputs at → running_of self.new ≡ happens count_log (machine_of (seen_model model.now)) Run at (running_of self.old) }
+        ensures state { (at : Inputs) → StandFor self.old.inputs at → running_of self.new
+            ≡ happens count_log (machine_of (seen_model model.now)) Run at (running_of self.old) }
     {
         self.machine.run(model, &self.inputs);
         self.counts.runs = self.counts.runs.saturating_add(1);
@@ -130,7 +134,8 @@ impl Runner {
     pub(crate) fn reset(&mut self, model: &Model, now: &[u64; 16])
         requires { IsModel (seen_model model.now) }
         ensures inputs { self.new.inputs ≡ now.now }
-        ensures state { (at : Inputs) → running_of self.new ≡ happens count_log (machine_of (seen_model model.now)) Reset at (running_of self.old) }
+        ensures state { (at : Inputs) → running_of self.new
+            ≡ happens count_log (machine_of (seen_model model.now)) Reset at (running_of self.old) }
     {
         self.machine.reset(model);
         self.counts.resets = self.counts.resets.saturating_add(1);

@@ -10,7 +10,8 @@ use Rattle.least_clocks.specs.Least.{rows_around}
 
 -- around the registers of which writes change a bit, and of those that are read
 abbrev pub changed_rows : Items → Holds → List WriteBit → List Branch
-changed_rows form holds ws = rows_around form (map (λ w. w.bit.reg) (filter (λ w. not (has_value holds w)) ws))
+changed_rows form holds ws =
+    rows_around form (map (λ w. w.bit.reg) (filter (λ w. not (has_value holds w)) ws))
 
 abbrev pub read_rows : Items → List ReadBit → List Branch
 read_rows form rs = rows_around form (map (λ r. r.bit.reg) rs)

@@ -1,5 +1,6 @@
 -- Worked examples, computed: the values are by hand.
-use Rattle.std.specs.Prelude.{◌≡◌, ℕ, zero, suc, ◌+◌, ◌*◌, Bool, true, false, List, [], ◌∷◌, ◌++◌, None, codes, refl}
+use Rattle.std.specs.Prelude.{◌≡◌, ℕ, zero, suc, ◌+◌, ◌*◌, Bool, true, false, List, [], ◌∷◌, ◌++◌, None}
+use Rattle.std.specs.Prelude.{codes, refl}
 use Rattle.ij_bits.specs.BitLists.{bits_of}
 use Rattle.ij_bits.specs.Room.{full}
 use Rattle.ij_bits.specs.Terns.{exact}
@@ -22,7 +23,14 @@ dev = record { ir = 8; idcode = None; link = full []; instr = full []; opcode = 
 
 abbrev network : List Reg → List Mux → Point → Net
 network regs muxes out =
-    record { regs = full regs; muxes = full muxes; insts = full []; out = out; nodes = full []; things = full [] }
+    record {
+      regs = full regs;
+      muxes = full muxes;
+      insts = full [];
+      out = out;
+      nodes = full [];
+      things = full [];
+    }
 
 -- a register gets these bits, position 0 first
 abbrev writes : ℕ → ℕ → List Bool → List WriteBit
@@ -33,12 +41,17 @@ abbrev write : ℕ → ℕ → ℕ → SeenStep
 write r n value = Apply (record { writes = writes r 0 (bits_of n value); reads = [] } ∷ [])
 
 abbrev read_first : ℕ → SeenStep
-read_first r = Apply (record { writes = []; reads = record { bit = record { reg = r; pos = 0 }; expect = true; read = 1; line = 1; index = 0 } ∷ [] } ∷ [])
+read_first r = Apply (record {
+  writes = [];
+  reads =
+      record { bit = record { reg = r; pos = 0 }; expect = true; read = 1; line = 1; index = 0 } ∷ [];
+} ∷ [])
 
 -- ---- one register of four bits
 
 abbrev flat : List SeenStep → ℕ
-flat steps = least_clocks (network (plain_register 0 4 Entry ∷ []) [] (FromReg 0)) (RegThen 0 Nothing) dev steps
+flat steps =
+    least_clocks (network (plain_register 0 4 Entry ∷ []) [] (FromReg 0)) (RegThen 0 Nothing) dev steps
 
 -- nothing to do
 no_clock : flat [] ≡ 0
@@ -80,7 +93,8 @@ row value from = record { values = full (exact (value ∷ []) ∷ []); from = fr
 -- n of them, from number k on: the register of the segment, and the one whose bit selects
 abbrev sib_regs : ℕ → ℕ → List Reg
 sib_regs k zero = []
-sib_regs k (suc n) = plain_register (2 * k) 8 (before k) ∷ plain_register (2 * k + 1) 1 (FromMux k) ∷ sib_regs (suc k) n
+sib_regs k (suc n) = plain_register (2 * k) 8 (before k)
+    ∷ plain_register (2 * k + 1) 1 (FromMux k) ∷ sib_regs (suc k) n
 
 abbrev sib_muxes : ℕ → ℕ → List Mux
 sib_muxes k zero = []
@@ -93,7 +107,8 @@ sib_muxes k (suc n) = record {
 
 abbrev sib_form : ℕ → ℕ → Items
 sib_form k zero = Nothing
-sib_form k (suc n) = MuxThen k (RowThen Nothing (RowThen (RegThen (2 * k) Nothing) NoRow)) (RegThen (2 * k + 1) (sib_form (suc k) n))
+sib_form k (suc n) = MuxThen k (RowThen Nothing (RowThen (RegThen (2 * k) Nothing) NoRow))
+    (RegThen (2 * k + 1) (sib_form (suc k) n))
 
 abbrev write_each : ℕ → ℕ → List SeenStep
 write_each k zero = []
@@ -107,7 +122,10 @@ one_segment : sibs 2 (write 0 8 0xA1 ∷ []) ≡ 1 + 14 + 7 + 15
 one_segment = refl
 
 -- both segments in one round
-both_segments : sibs 2 (Apply (record { writes = writes 0 0 (bits_of 8 0xA1) ++ writes 2 0 (bits_of 8 0xA2); reads = [] } ∷ []) ∷ []) ≡ 1 + 14 + 7 + 23
+both_segments : sibs 2 (Apply (record {
+  writes = writes 0 0 (bits_of 8 0xA1) ++ writes 2 0 (bits_of 8 0xA2);
+  reads = [];
+} ∷ []) ∷ []) ≡ 1 + 14 + 7 + 23
 both_segments = refl
 
 -- one after the other, read back

@@ -17,4 +17,5 @@ in_all net form device c left = c.clocks + least_from net form device (state_of 
 
 -- this work is counted in between
 abbrev pub Counts : Net → Items → Device → List Work → Count → Count → Type 0
-Counts net form device work old new = (left : List Work) → in_all net form device new left ≡ in_all net form device old (work ++ left)
+Counts net form device work old new = (left : List Work)
+    → in_all net form device new left ≡ in_all net form device old (work ++ left)

@@ -11,11 +11,12 @@ use Rattle.svf_writer.specs.SeenCommands.{SeenCommand}
 use Rattle.svf_audit.specs.Audit.{Reading, Yes, audit}
 use Rattle.least_clocks.specs.Least.{least_clocks}
 
--- on every network with its nested form: commands that can be played, and of which the audit says yes for some bit
--- steps, take so many clocks of TCK from power-up on, or more
+-- on every network with its nested form: commands that can be played, and of which the audit says yes for
+-- some bit steps, take so many clocks of TCK from power-up on, or more
 abbrev pub NoneTakesFewer : Type 0
 NoneTakesFewer =
-    (net : Net) (form : Items) (device : Device) (steps : List SeenStep) (commands : List SeenCommand) (readings : List Reading) →
+    (net : Net) (form : Items) (device : Device) (steps : List SeenStep)
+    (commands : List SeenCommand) (readings : List Reading) →
     Describes net form → All (IsStep net) steps → AreFit commands →
     audit net device steps commands ≡ Yes readings →
     least_clocks net form device steps ≤ clocks commands

@@ -1,6 +1,7 @@
 -- How many clocks any SVF takes at least that does what a procedure asks for
 -- (IEEE 1149.1-2013, TAP controller; IEEE 1687-2014, PDL level 0; Serial Vector Format, revision E).
-use Rattle.std.specs.Prelude.{ℕ, suc, ◌+◌, Bool, true, false, cond, not, List, [], ◌∷◌, ◌++◌, map, filter, flat_map}
+use Rattle.std.specs.Prelude.{ℕ, suc, ◌+◌, Bool, true, false, cond, not, List, [], ◌∷◌, ◌++◌, map, filter}
+use Rattle.std.specs.Prelude.{flat_map}
 use Rattle.std.specs.List.{list_all}
 use Rattle.net_graph.specs.declared.branch.Branch.{Branch}
 use Rattle.net_graph.specs.declared.device.Device.{Device}
@@ -41,8 +42,8 @@ first_path net = route_of net (start_holds net)
 abbrev pub is_on_first : Net → Holds → SeenGroup → Bool
 is_on_first net holds g = list_all (is_in (first_path net)) (changed holds g ++ read g)
 
--- whether no data scan reached the network yet, whether the link's instruction is in force, where the controller rests, and the
--- register bits: what counts of them are those that select nothing
+-- whether no data scan reached the network yet, whether the link's instruction is in force, where the
+-- controller rests, and the register bits: what counts of them are those that select nothing
 pub record State : Type 0 where
   pub fresh : Bool
   pub linked : Bool
@@ -54,7 +55,8 @@ abbrev pub clocks_to_idle : Stable → ℕ
 clocks_to_idle InReset = 1
 clocks_to_idle InIdle = 0
 
--- the clocks of the scan that brings the link's instruction into force: 4 to Shift-IR and 2 back, as many as it has bits between
+-- the clocks of the scan that brings the link's instruction into force: 4 to Shift-IR and 2 back, as many as
+-- it has bits between
 abbrev pub clocks_to_link : Device → Bool → ℕ
 clocks_to_link device true = 0
 clocks_to_link device false = device.ir + 6
@@ -72,24 +74,26 @@ was_reset net s = record { fresh = s.fresh; linked = false; rest = InReset; hold
 abbrev pub start : Net → State
 start net = record { fresh = true; linked = false; rest = InReset; holds = start_holds net }
 
--- a data scan takes 3 clocks to Shift-DR and 2 back, as many as the path has bits between: the scan of a round, and the first one
--- since power-up
+-- a data scan takes 3 clocks to Shift-DR and 2 back, as many as the path has bits between: the scan of a
+-- round, and the first one since power-up
 abbrev pub own_scan : Net → Items → Holds → SeenGroup → ℕ
 own_scan net form holds g = path_bits net form (is_passed form holds g) + 5
 
 abbrev pub first_scan : Net → ℕ
 first_scan net = bits_along net (first_path net) + 5
 
--- A round that changes a bit or reads one takes a scan of its own. The first scan goes along the path at power-up: where that
--- hasn't all registers that the round asks for, another one follows.
+-- A round that changes a bit or reads one takes a scan of its own. The first scan goes along the path at
+-- power-up: where that hasn't all registers that the round asks for, another one follows.
 abbrev pub scan_clocks : Net → Items → Bool → Holds → SeenGroup → ℕ
 scan_clocks net form false holds g = own_scan net form holds g
-scan_clocks net form true holds g = first_scan net + cond (is_on_first net holds g) 0 (own_scan net form holds g)
+scan_clocks net form true holds g =
+    first_scan net + cond (is_on_first net holds g) 0 (own_scan net form holds g)
 
 module _ (net : Net) (form : Items) (device : Device) where
   -- with the ways to Run-Test/Idle and to the link's instruction
   abbrev pub round_clocks : State → SeenGroup → ℕ
-  round_clocks s g = clocks_to_idle s.rest + (clocks_to_link device s.linked + scan_clocks net form s.fresh s.holds g)
+  round_clocks s g =
+      clocks_to_idle s.rest + (clocks_to_link device s.linked + scan_clocks net form s.fresh s.holds g)
 
   -- the clocks of work from a state on: a reset takes 5, and goes out from Run-Test/Idle
   abbrev pub least_from : State → List Work → ℕ

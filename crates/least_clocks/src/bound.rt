@@ -12,21 +12,22 @@ use net_graph::{Device, Net};
 use net_tree::Tree;
 use std::alloc::Global;
 
-/// The clocks of TCK, from power-up on, that any SVF takes at least of which an audit says yes for these bit steps: see
-/// `least_law` (IEEE 1149.1-2013, TAP controller; IEEE 1687-2014, PDL level 0; Serial Vector Format, revision E).
+/// The clocks of TCK, from power-up on, that any SVF takes at least of which an audit says yes for these bit
+/// steps: see `least_law` (IEEE 1149.1-2013, TAP controller; IEEE 1687-2014, PDL level 0; Serial Vector
+/// Format, revision E).
 ///
 /// They are
 ///
-/// - for each round that changes a bit or reads one 5 clocks, and one for each bit of the registers around which no row of a
-///   multiplexer stands but those around the registers of which it changes or reads a bit;
-/// - before the first such round 5 clocks, and one for each bit of the path at power-up: along it goes the first data scan. If
-///   all registers that the round asks for are on that path, its own scan is that one;
-/// - before the first such round since power-up or a reset the 6 clocks of a scan of the instruction register, and one for each
-///   of its bits;
+/// - for each round that changes a bit or reads one 5 clocks, and one for each bit of the registers around
+///   which no row of a multiplexer stands but those around the registers of which it changes or reads a bit;
+/// - before the first such round 5 clocks, and one for each bit of the path at power-up: along it goes the
+///   first data scan. If all registers that the round asks for are on that path, its own scan is that one;
+/// - before the first such round since power-up or a reset the 6 clocks of a scan of the instruction
+///   register, and one for each of its bits;
 /// - each clock of a run, 5 for a reset, and 1 out of Test-Logic-Reset where something follows.
 ///
-/// It takes memory for the rows that a round passes. Its time is linear in the bits that are written and read, and for each
-/// round in the registers of the network and the rows that it passes.
+/// It takes memory for the rows that a round passes. Its time is linear in the bits that are written and
+/// read, and for each round in the registers of the network and the rows that it passes.
 ///
 /// # Errors
 ///

@@ -1,5 +1,6 @@
 // A count of clocks through the work of a procedure.
-ghost use Rattle.std.specs.Prelude.{◌≡◌, ◌≤◌, ◌<◌, ◌+◌, ◌*◌, ◌^◌, [], ◌∷◌, false, true, length, map, replicate, All, IfOk, OnOk, Some};
+ghost use Rattle.std.specs.Prelude.{◌≡◌, ◌≤◌, ◌<◌, ◌+◌, ◌*◌, ◌^◌, [], ◌∷◌, false, true, length, map};
+ghost use Rattle.std.specs.Prelude.{replicate, All, IfOk, OnOk, Some};
 ghost use Rattle.net_graph.specs.Held.{AreHolds};
 ghost use Rattle.net_graph.specs.Nets.{IsNet};
 ghost use Rattle.net_graph.specs.declared.device.Device.{Device as ADevice};
@@ -55,7 +56,8 @@ impl Count {
     /// Goes to Run-Test/Idle.
     fn leave(&mut self)
         requires { self.old.clocks < 2 ^ 63 }
-        ensures state { self.new ≡ record self.old { rest = Stable.Idle; clocks = self.old.clocks + clocks_to_idle self.old.rest } }
+        ensures state { self.new ≡ record self.old
+            { rest = Stable.Idle; clocks = self.old.clocks + clocks_to_idle self.old.rest } }
         ensures few { self.new.clocks ≤ self.old.clocks + 1 }
     {
         if self.rest == Stable::Reset {
@@ -67,7 +69,8 @@ impl Count {
     /// Brings the link's instruction into force.
     fn link(&mut self, device: &Device)
         requires { self.old.clocks < 2 ^ 63 + 2 ^ 32 }
-        ensures state { self.new ≡ record self.old { linked = true; clocks = self.old.clocks + clocks_to_link device.now self.old.linked } }
+        ensures state { self.new ≡ record self.old
+            { linked = true; clocks = self.old.clocks + clocks_to_link device.now self.old.linked } }
         ensures few { self.new.clocks ≤ self.old.clocks + 2 ^ 33 }
     {
         if !self.linked {
@@ -80,7 +83,14 @@ impl Count {
     fn scan(&mut self, device: &Device, clocks: u64)
         requires room { self.old.clocks < 2 ^ 63 }
         requires few { clocks ≤ 2 ^ 46 }
-        ensures state { self.new ≡ record self.old { fresh = false; linked = true; rest = Stable.Idle; clocks = self.old.clocks + (clocks_to_idle self.old.rest + (clocks_to_link device.now self.old.linked + clocks)) } }
+        ensures state { self.new
+            ≡ record self.old {
+              fresh = false;
+              linked = true;
+              rest = Stable.Idle;
+              clocks = self.old.clocks
+                  + (clocks_to_idle self.old.rest + (clocks_to_link device.now self.old.linked + clocks));
+            } }
         ensures few { self.new.clocks ≤ self.old.clocks + 2 ^ 47 }
     {
         self.leave();
@@ -102,7 +112,8 @@ impl Count {
         requires group { IsGroup net.now (seen_group group.now) }
         requires holds { AreHolds net.now self.old.holds }
         requires room { self.old.clocks < 2 ^ 63 }
-        ensures counts { OnOk result (Counts net.now tree.now device.now (GroupWork (seen_group group.now) ∷ []) self.old self.new) }
+        ensures counts { OnOk result
+            (Counts net.now tree.now device.now (GroupWork (seen_group group.now) ∷ []) self.old self.new) }
         ensures few { OnOk result (self.new.clocks ≤ self.old.clocks + 2 ^ 47) }
         ensures holds { OnOk result (AreHolds net.now self.new.holds) }
     {
@@ -130,7 +141,8 @@ impl Count {
         requires groups { All (IsGroup net.now) (map seen_group rounds.now) }
         requires holds { AreHolds net.now self.old.holds }
         requires room { self.old.clocks + 2 ^ 47 * length rounds.now < 2 ^ 63 }
-        ensures counts { OnOk result (Counts net.now tree.now device.now (map GroupWork (map seen_group rounds.now)) self.old self.new) }
+        ensures counts { OnOk result (Counts net.now tree.now device.now
+            (map GroupWork (map seen_group rounds.now)) self.old self.new) }
         ensures few { OnOk result (self.new.clocks ≤ self.old.clocks + 2 ^ 47 * length rounds.now) }
         ensures holds { OnOk result (AreHolds net.now self.new.holds) }
     {
@@ -143,7 +155,8 @@ impl Count {
     /// Does so many clocks in Run-Test/Idle.
     fn run(&mut self, cycles: u32)
         requires { self.old.clocks < 2 ^ 63 }
-        ensures counts { (net : ANet) (form : Items) (device : ADevice) → Counts net form device (replicate cycles Cycle) self.old self.new }
+        ensures counts { (net : ANet) (form : Items) (device : ADevice)
+            → Counts net form device (replicate cycles Cycle) self.old self.new }
         ensures few { self.new.clocks ≤ self.old.clocks + 2 ^ 33 }
         ensures holds { self.new.holds ≡ self.old.holds }
     {
@@ -157,7 +170,8 @@ impl Count {
     fn reset(&mut self, net: &Net)
         requires holds { AreHolds net.now self.old.holds }
         requires room { self.old.clocks < 2 ^ 63 }
-        ensures counts { (form : Items) (device : ADevice) → Counts net.now form device (ResetWork ∷ []) self.old self.new }
+        ensures counts { (form : Items) (device : ADevice)
+            → Counts net.now form device (ResetWork ∷ []) self.old self.new }
         ensures few { self.new.clocks ≤ self.old.clocks + 2 ^ 33 }
         ensures holds { AreHolds net.now self.new.holds }
     {
@@ -180,9 +194,12 @@ impl Count {
         requires net { IsNet net.now }
         requires step { IsStep net.now (seen_step step.now) }
         requires holds { AreHolds net.now self.old.holds }
-        requires room { self.old.clocks + 2 ^ 47 * length (rounds_of (Some (seen_step step.now))) + 2 ^ 33 < 2 ^ 63 }
-        ensures counts { OnOk result (Counts net.now tree.now device.now (work_of (seen_step step.now)) self.old self.new) }
-        ensures few { OnOk result (self.new.clocks ≤ self.old.clocks + 2 ^ 47 * length (rounds_of (Some (seen_step step.now))) + 2 ^ 33) }
+        requires room { self.old.clocks + 2 ^ 47 * length
+            (rounds_of (Some (seen_step step.now))) + 2 ^ 33 < 2 ^ 63 }
+        ensures counts { OnOk result
+            (Counts net.now tree.now device.now (work_of (seen_step step.now)) self.old self.new) }
+        ensures few { OnOk result (self.new.clocks
+            ≤ self.old.clocks + 2 ^ 47 * length (rounds_of (Some (seen_step step.now))) + 2 ^ 33) }
         ensures holds { OnOk result (AreHolds net.now self.new.holds) }
     {
         match step {

@@ -57,7 +57,8 @@ fn is_on(path: &[u32], reg: u32) -> bool
 /// Whether the registers of which a bit changes are on a path.
 fn changed_are_on(path: &[u32], holds: &Holds, writes: &[WriteBit]) -> bool
     requires { All (λ w. IsHeld holds.now w.bit) writes.now }
-    ensures { result ≡ list_all (paths.is_in path.now) (map (λ w. w.bit.reg) (filter (λ w. not (working.has_value holds.now w)) writes.now)) }
+    ensures { result ≡ list_all (paths.is_in path.now)
+        (map (λ w. w.bit.reg) (filter (λ w. not (working.has_value holds.now w)) writes.now)) }
 {
     for write in writes {
         if !has_value(holds, *write) && !is_on(path, write.bit.reg) {
@@ -82,14 +83,16 @@ fn read_are_on(path: &[u32], reads: &[ReadBit]) -> bool
 /// Whether all registers that a round asks for are on a path.
 fn all_are_on(path: &[u32], holds: &Holds, group: &Group) -> bool
     requires { All (λ w. IsHeld holds.now w.bit) group.now.writes.items }
-    ensures { result ≡ list_all (paths.is_in path.now) (least.changed holds.now (seen_group group.now) ++ least.read (seen_group group.now)) }
+    ensures { result ≡ list_all (paths.is_in path.now)
+        (least.changed holds.now (seen_group group.now) ++ least.read (seen_group group.now)) }
 {
     changed_are_on(path, holds, group.writes.as_slice())
         && read_are_on(path, group.reads.as_slice())
 }
 
-/// The clocks of the scans of a round, of which its own takes so many: where no data scan reached the network yet, the first
-/// one goes along the path at power-up, and the round's own follows where that path hasn't all registers that it asks for.
+/// The clocks of the scans of a round, of which its own takes so many: where no data scan reached the network
+/// yet, the first one goes along the path at power-up, and the round's own follows where that path hasn't all
+/// registers that it asks for.
 pub(crate) fn scan_clocks(
     alloc: Global,
     net: &Net,
@@ -101,7 +104,8 @@ pub(crate) fn scan_clocks(
     requires net { IsNet net.now }
     requires held { All (λ w. IsHeld holds.now w.bit) group.now.writes.items }
     requires few { own ≤ 4096 * 2 ^ 32 + 5 }
-    ensures clocks { IfOk result (λ clocks. clocks ≡ cond fresh (least.first_scan net.now + cond (least.is_on_first net.now holds.now (seen_group group.now)) 0 own) own) }
+    ensures clocks { IfOk result (λ clocks. clocks ≡ cond fresh (least.first_scan net.now + cond
+        (least.is_on_first net.now holds.now (seen_group group.now)) 0 own) own) }
     ensures few { IfOk result (λ clocks. clocks ≤ 2 ^ 46) }
 {
     if !fresh {

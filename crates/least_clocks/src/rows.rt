@@ -36,7 +36,8 @@ pub(crate) fn is_one_of(rows: &[Branch], row: Branch) -> bool
 
 /// Adds a row, unless it is there.
 fn add_row(rows: &mut List<Branch>, row: Branch) -> Result<(), OutOfMemory>
-    ensures { OnOk result ((b : ABranch) → inside.is_one_of rows.new.items b ≡ (inside.is_one_of rows.old.items b || inside.same_branch b row)) }
+    ensures { OnOk result ((b : ABranch) → inside.is_one_of rows.new.items b
+        ≡ (inside.is_one_of rows.old.items b || inside.same_branch b row)) }
 {
     if !is_one_of(rows.as_slice(), row) {
         rows.push(row)?;
@@ -46,7 +47,8 @@ fn add_row(rows: &mut List<Branch>, row: Branch) -> Result<(), OutOfMemory>
 
 /// The same of several rows.
 fn add_rows(rows: &mut List<Branch>, more: &[Branch]) -> Result<(), OutOfMemory>
-    ensures { OnOk result ((b : ABranch) → inside.is_one_of rows.new.items b ≡ (inside.is_one_of rows.old.items b || inside.is_one_of more.now b)) }
+    ensures { OnOk result ((b : ABranch) → inside.is_one_of rows.new.items b
+        ≡ (inside.is_one_of rows.old.items b || inside.is_one_of more.now b)) }
 {
     for row in more {
         add_row(rows, *row)?;
@@ -56,7 +58,8 @@ fn add_rows(rows: &mut List<Branch>, more: &[Branch]) -> Result<(), OutOfMemory>
 
 /// Adds the rows around a register.
 fn add_around(rows: &mut List<Branch>, tree: &Tree, reg: u32) -> Result<(), OutOfMemory>
-    ensures { OnOk result ((b : ABranch) → inside.is_one_of rows.new.items b ≡ (inside.is_one_of rows.old.items b || inside.is_one_of (place_of tree.now (point.Reg reg)) b)) }
+    ensures { OnOk result ((b : ABranch) → inside.is_one_of rows.new.items b
+        ≡ (inside.is_one_of rows.old.items b || inside.is_one_of (place_of tree.now (point.Reg reg)) b)) }
 {
     add_rows(rows, tree.place_of(reg).as_slice())
 }
@@ -69,7 +72,9 @@ fn add_changed(
     writes: &[WriteBit],
 ) -> Result<(), OutOfMemory>
     requires { All (λ w. IsHeld holds.now w.bit) writes.now }
-    ensures { OnOk result ((b : ABranch) → inside.is_one_of rows.new.items b ≡ (inside.is_one_of rows.old.items b || inside.is_one_of (rows_around tree.now (map (λ w. w.bit.reg) (filter (λ w. not (working.has_value holds.now w)) writes.now))) b)) }
+    ensures { OnOk result ((b : ABranch) → inside.is_one_of rows.new.items b
+        ≡ (inside.is_one_of rows.old.items b || inside.is_one_of (rows_around tree.now
+        (map (λ w. w.bit.reg) (filter (λ w. not (working.has_value holds.now w)) writes.now))) b)) }
 {
     for write in writes {
         if !has_value(holds, *write) {
@@ -81,7 +86,8 @@ fn add_changed(
 
 /// Adds the rows around the registers of which a bit is read.
 fn add_read(rows: &mut List<Branch>, tree: &Tree, reads: &[ReadBit]) -> Result<(), OutOfMemory>
-    ensures { OnOk result ((b : ABranch) → inside.is_one_of rows.new.items b ≡ (inside.is_one_of rows.old.items b || inside.is_one_of (rows_around tree.now (map (λ r. r.bit.reg) reads.now)) b)) }
+    ensures { OnOk result ((b : ABranch) → inside.is_one_of rows.new.items b ≡ (inside.is_one_of
+        rows.old.items b || inside.is_one_of (rows_around tree.now (map (λ r. r.bit.reg) reads.now)) b)) }
 {
     for read in reads {
         add_around(rows, tree, read.bit.reg)?;
@@ -97,7 +103,8 @@ pub(crate) fn passed_rows(
     group: &Group,
 ) -> Result<List<Branch>, OutOfMemory>
     requires { All (λ w. IsHeld holds.now w.bit) group.now.writes.items }
-    ensures { IfOk result (λ rows. (b : ABranch) → inside.is_one_of rows.items b ≡ is_passed tree.now holds.now (seen_group group.now) b) }
+    ensures { IfOk result (λ rows. (b : ABranch)
+        → inside.is_one_of rows.items b ≡ is_passed tree.now holds.now (seen_group group.now) b) }
 {
     let mut rows = List::new(alloc);
     add_changed(&mut rows, tree, holds, group.writes.as_slice())?;

@@ -1,5 +1,6 @@
 -- A branch that is merged with no other.
-use Rattle.std.proofs.Common.{◌≡◌, ◌≤◌, ℕ, ◌==◌, Bool, true, false, cond, [], ◌∷◌, ◌++◌, length, Some, None, refl, ap, ◌∙◌, arith}
+use Rattle.std.proofs.Common.{◌≡◌, ◌≤◌, ℕ, ◌==◌, Bool, true, false, cond, [], ◌∷◌, ◌++◌, length, Some, None}
+use Rattle.std.proofs.Common.{refl, ap, ◌∙◌, arith}
 use Rattle.std.proofs.lemmas.Bool.{eqb-true}
 use Rattle.std.proofs.Math.Nat.{max-zero}
 use Rattle.net_graph.specs.SeenSteps.{SeenStep, Apply, Run, Reset}
@@ -25,7 +26,8 @@ module _ (places : Places) where
 
   turns_alone : (b : Branch) → AreTurns b → turns places (length b) (b ∷ []) ≡ b
   turns_alone [] h = refl
-  turns_alone (s ∷ ss) h = ap (λ l. l ++ turns places (length ss) (ss ∷ [])) (turn_alone s h.0) ∙ ap (λ l. s ∷ l) (turns_alone ss h.1)
+  turns_alone (s ∷ ss) h = ap (λ l. l ++ turns places (length ss) (ss ∷ [])) (turn_alone s h.0)
+      ∙ ap (λ l. s ∷ l) (turns_alone ss h.1)
 
 pub one_branch_stays : OneBranchStays
 one_branch_stays places b h = ap (λ n. turns places n (b ∷ [])) (max-zero (length b)) ∙ turns_alone places b h

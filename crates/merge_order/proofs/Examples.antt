@@ -26,8 +26,13 @@ in_line r = []
 
 -- one branch writes 1, runs 10 clocks and writes 2; the other writes 3 and runs 30
 turns_are_shared :
-    merged in_line ((writing (two 0 true false) ∷ Run 10 ∷ writing (two 0 false true) ∷ []) ∷ (writing (two 1 true true) ∷ Run 30 ∷ []) ∷ [])
-    ≡ Apply (record { writes = sets 0 0 true ∷ sets 0 1 false ∷ sets 1 0 true ∷ sets 1 1 true ∷ []; reads = [] } ∷ []) ∷ Run 30 ∷ writing (two 0 false true) ∷ []
+    merged in_line ((writing (two 0 true false) ∷ Run 10 ∷ writing (two 0 false true) ∷ [])
+    ∷ (writing (two 1 true true) ∷ Run 30 ∷ []) ∷ [])
+    ≡ Apply (record {
+      writes = sets 0 0 true ∷ sets 0 1 false ∷ sets 1 0 true ∷ sets 1 1 true ∷ [];
+      reads =
+          [];
+    } ∷ []) ∷ Run 30 ∷ writing (two 0 false true) ∷ []
 turns_are_shared = refl
 
 -- ---- two registers in two rows of one mux
@@ -39,22 +44,26 @@ abbrev in_rows : Places
 in_rows r = row_of r
 
 -- each branch writes its own register
-rows_are_kept_apart : merged in_rows ((writing (two 0 true false) ∷ []) ∷ (writing (two 1 false true) ∷ []) ∷ []) ≡ writing (two 0 true false) ∷ writing (two 1 false true) ∷ []
+rows_are_kept_apart : merged in_rows ((writing (two 0 true false) ∷ []) ∷ (writing (two 1 false true) ∷ [])
+    ∷ []) ≡ writing (two 0 true false) ∷ writing (two 1 false true) ∷ []
 rows_are_kept_apart = refl
 
 -- ---- both branches write one bit
 
-bits_are_kept_apart : merged in_line ((writing (two 0 true false) ∷ []) ∷ (writing (two 0 false true) ∷ []) ∷ []) ≡ writing (two 0 true false) ∷ writing (two 0 false true) ∷ []
+bits_are_kept_apart : merged in_line ((writing (two 0 true false) ∷ []) ∷ (writing (two 0 false true) ∷ [])
+    ∷ []) ≡ writing (two 0 true false) ∷ writing (two 0 false true) ∷ []
 bits_are_kept_apart = refl
 
 -- a third branch joins the first, after one that can't
 later_branches_join :
-    merged in_line ((writing (sets 0 0 true ∷ []) ∷ []) ∷ (writing (sets 0 0 false ∷ []) ∷ []) ∷ (writing (sets 1 0 true ∷ []) ∷ []) ∷ [])
+    merged in_line ((writing (sets 0 0 true ∷ []) ∷ []) ∷ (writing (sets 0 0 false ∷ []) ∷ [])
+    ∷ (writing (sets 1 0 true ∷ []) ∷ []) ∷ [])
     ≡ writing (sets 0 0 true ∷ sets 1 0 true ∷ []) ∷ writing (sets 0 0 false ∷ []) ∷ []
 later_branches_join = refl
 
 -- an iApply of two rounds stands alone
 rounds_stand_alone :
-    merged in_line ((Apply (group (sets 0 0 true ∷ []) ∷ group (sets 1 0 true ∷ []) ∷ []) ∷ []) ∷ (writing (sets 2 0 true ∷ []) ∷ []) ∷ [])
+    merged in_line ((Apply (group (sets 0 0 true ∷ []) ∷ group (sets 1 0 true ∷ []) ∷ []) ∷ [])
+    ∷ (writing (sets 2 0 true ∷ []) ∷ []) ∷ [])
     ≡ Apply (group (sets 0 0 true ∷ []) ∷ group (sets 1 0 true ∷ []) ∷ []) ∷ writing (sets 2 0 true ∷ []) ∷ []
 rounds_stand_alone = refl

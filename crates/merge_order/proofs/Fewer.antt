@@ -1,18 +1,23 @@
 -- A merge asks for no more than its branches together.
-use Rattle.std.proofs.Common.{◌≡◌, ◌≤◌, ◌+◌, ◌==◌, ℕ, zero, suc, max, Bool, true, false, cond, List, [], ◌∷◌, ◌++◌, length, map, Some, None, refl, ap, arith}
+use Rattle.std.proofs.Common.{◌≡◌, ◌≤◌, ◌+◌, ◌==◌, ℕ, zero, suc, max, Bool, true, false, cond, List, [], ◌∷◌}
+use Rattle.std.proofs.Common.{◌++◌, length, map, Some, None, refl, ap, arith}
 use Rattle.std.proofs.lemmas.Bool.{eqb-true}
 use Rattle.std.proofs.lemmas.List.{length-append, length-map}
 use Rattle.net_graph.specs.SeenSteps.{SeenGroup, Apply, Run, Reset}
 use Rattle.pdl_targets.specs.Binding.{run_of}
 use Rattle.pdl_targets.specs.Laws.{cycles_in, cycles_of, rounds_in}
 use Rattle.pdl_targets.specs.Rounds.{Places}
-use Rattle.merge_order.specs.Laws.{in_all, MergedCyclesAreFew, MergedRoundsAreFew, MergedRunsAreShort, MergedStepsAreFew}
-use Rattle.merge_order.specs.Merge.{Branch, all_joins, applies_in, after_first, first_join, firsts, if_any, joins, joins_upto, later, longest, longest_run, merged, turn, turns, unjoined, with_first}
+use Rattle.merge_order.specs.Laws.{in_all, MergedCyclesAreFew, MergedRoundsAreFew, MergedRunsAreShort}
+use Rattle.merge_order.specs.Laws.{MergedStepsAreFew}
+use Rattle.merge_order.specs.Merge.{Branch, all_joins, applies_in, after_first, first_join, firsts, if_any}
+use Rattle.merge_order.specs.Merge.{joins, joins_upto, later, longest, longest_run, merged, turn, turns}
+use Rattle.merge_order.specs.Merge.{unjoined, with_first}
 use Rattle.merge_order.proofs.Kept.{merged_have}
 
 -- ---- what is counted turn by turn
 
-module _ (places : Places) (count : Branch → ℕ) (none : count [] ≡ 0) (both : (a b : Branch) → count (a ++ b) ≡ count a + count b) (less : (ss : Branch) → count (turn places ss) ≤ count ss) where
+module _ (places : Places) (count : Branch → ℕ) (none : count [] ≡ 0) (both : (a b : Branch)
+    → count (a ++ b) ≡ count a + count b) (less : (ss : Branch) → count (turn places ss) ≤ count ss) where
   split : (bs : List Branch) → count (firsts bs) + in_all count (later bs) ≡ in_all count bs
   split [] = omega (arith, none)
   split ([] ∷ bs) = let ih = split bs in omega (arith, none, ih)
@@ -71,12 +76,14 @@ module _ (places : Places) where
   steps_less ss =
       let few = joins_few (length (applies_in ss)) (applies_in ss) in
       let fit = steps_fit ss in
-      let two = length-append (map Apply (all_joins places (applies_in ss))) (if_any (run_of (longest_run ss))) in
+      let two = length-append (map Apply (all_joins places (applies_in ss)))
+      (if_any (run_of (longest_run ss))) in
       let same = length-map (all_joins places (applies_in ss)) Apply in
       omega (arith, few, fit, two, same)
 
 pub merged_steps_are_few : MergedStepsAreFew
-merged_steps_are_few places = merged_less places (λ b. length b) refl (λ a b. length-append a b) (steps_less places)
+merged_steps_are_few places =
+    merged_less places (λ b. length b) refl (λ a b. length-append a b) (steps_less places)
 
 -- ---- rounds
 
@@ -106,21 +113,25 @@ no_rounds n = by_test (n == 0)
     by_test false = omega arith
 
 module _ (places : Places) where
-  unjoined_less : (g : SeenGroup) (applies : List (List SeenGroup)) → sum_rounds (unjoined places g applies) ≤ sum_rounds applies
+  unjoined_less : (g : SeenGroup) (applies : List (List SeenGroup))
+      → sum_rounds (unjoined places g applies) ≤ sum_rounds applies
   unjoined_less g [] = omega arith
   unjoined_less g (a ∷ rest) = by_join (λ h. unjoined_less h rest) (joins places g a)
     where
       by_join : ((h : SeenGroup) → sum_rounds (unjoined places h rest) ≤ sum_rounds rest) → (b : Bool)
-          → sum_rounds (cond b (unjoined places (with_first g a) rest) (a ∷ unjoined places g rest)) ≤ sum_rounds (a ∷ rest)
+          → sum_rounds (cond b (unjoined places (with_first g a) rest) (a ∷ unjoined places g rest))
+          ≤ sum_rounds (a ∷ rest)
       by_join ih true = let less = ih (with_first g a) in omega (arith, less)
       by_join ih false = let less = ih g in omega (arith, less)
 
-  first_less : (a : List SeenGroup) (rest : List (List SeenGroup)) → length (first_join places a rest) + sum_rounds (after_first places a rest) ≤ sum_rounds (a ∷ rest)
+  first_less : (a : List SeenGroup) (rest : List (List SeenGroup))
+      → length (first_join places a rest) + sum_rounds (after_first places a rest) ≤ sum_rounds (a ∷ rest)
   first_less [] rest = omega arith
   first_less (g ∷ []) rest = let less = unjoined_less g rest in omega (arith, less)
   first_less (g ∷ h ∷ more) rest = omega arith
 
-  joins_less : (n : ℕ) (applies : List (List SeenGroup)) → sum_rounds (joins_upto places n applies) ≤ sum_rounds applies
+  joins_less : (n : ℕ) (applies : List (List SeenGroup))
+      → sum_rounds (joins_upto places n applies) ≤ sum_rounds applies
   joins_less zero applies = omega arith
   joins_less (suc n) [] = omega arith
   joins_less (suc n) (a ∷ rest) =
@@ -130,7 +141,8 @@ module _ (places : Places) where
 
   rounds_less : (ss : Branch) → rounds_in (turn places ss) ≤ rounds_in ss
   rounds_less ss =
-      let two = rounds_both (map Apply (all_joins places (applies_in ss))) (if_any (run_of (longest_run ss))) in
+      let two = rounds_both (map Apply (all_joins places (applies_in ss)))
+      (if_any (run_of (longest_run ss))) in
       let joined = rounds_are (all_joins places (applies_in ss)) in
       let less = joins_less (length (applies_in ss)) (applies_in ss) in
       let all = applied_rounds ss in
@@ -166,7 +178,8 @@ longest_less (Reset ∷ ss) = let ih = longest_less ss in omega (arith, ih)
 module _ (places : Places) where
   cycles_less : (ss : Branch) → cycles_in (turn places ss) ≤ cycles_in ss
   cycles_less ss =
-      let two = cycles_both (map Apply (all_joins places (applies_in ss))) (if_any (run_of (longest_run ss))) in
+      let two = cycles_both (map Apply (all_joins places (applies_in ss)))
+      (if_any (run_of (longest_run ss))) in
       let none = no_cycles (all_joins places (applies_in ss)) in
       let one = run_cycles (longest_run ss) in
       let less = longest_less ss in
@@ -178,4 +191,5 @@ merged_cycles_are_few places = merged_less places cycles_in refl cycles_both (cy
 -- ---- the longest run
 
 pub merged_runs_are_short : MergedRunsAreShort
-merged_runs_are_short places branches n h = merged_have places (λ s. cycles_of (Some s) ≤ n) (λ g i e a b. omega arith) branches h
+merged_runs_are_short places branches n h =
+    merged_have places (λ s. cycles_of (Some s) ≤ n) (λ g i e a b. omega arith) branches h

@@ -40,6 +40,7 @@ module _ (s : State) (end : Option TargetAFault) where
   refused_end (target.Limit at which number) h = ap ends h.says
   refused_end (target.Unapplied at) h = ap ends h.says
 
-pub refused_fed : (fed : Fed) (old new : AFeeder) (result : Result (Unit {0}) FeedFault) → Feeds fed old new result → IfErr result (Refuses fed)
+pub refused_fed : (fed : Fed) (old new : AFeeder) (result : Result (Unit {0}) FeedFault)
+    → Feeds fed old new result → IfErr result (Refuses fed)
 refused_fed fed old new (Ok u) h = tt
 refused_fed fed old new (Err e) h = h

@@ -1,5 +1,6 @@
 -- Lists that stand in lists, one element after the other.
-use Rattle.std.proofs.Common.{◌≡◌, ◌≤◌, inl, inr, ⊎_elim, Bool, true, false, cond, List, [], ◌∷◌, ◌++◌, length, refl, sym, ap, ◌∙◌, subst, arith}
+use Rattle.std.proofs.Common.{◌≡◌, ◌≤◌, inl, inr, ⊎_elim, Bool, true, false, cond, List, [], ◌∷◌, ◌++◌}
+use Rattle.std.proofs.Common.{length, refl, sym, ap, ◌∙◌, subst, arith}
 use Rattle.std.specs.Prelude.{filter}
 use Rattle.merge_order.specs.Order.{StandIn}
 
@@ -12,7 +13,8 @@ module _ {X : Type 0} where
   pub stand_both : (xs ys us vs : List X) → StandIn xs ys → StandIn us vs → StandIn (xs ++ us) (ys ++ vs)
   stand_both [] ys us vs h k = stand_after us ys vs k
   stand_both (x ∷ xs) [] us vs h k = absurd h
-  stand_both (x ∷ xs) (y ∷ ys) us vs h k = ⊎_elim (λ p. inl (p.0, stand_both xs ys us vs p.1 k)) (λ q. inr (stand_both (x ∷ xs) ys us vs q k)) h
+  stand_both (x ∷ xs) (y ∷ ys) us vs h k =
+      ⊎_elim (λ p. inl (p.0, stand_both xs ys us vs p.1 k)) (λ q. inr (stand_both (x ∷ xs) ys us vs q k)) h
 
   pub stand_self : (xs : List X) → StandIn xs xs
   stand_self [] = tt
@@ -23,13 +25,15 @@ module _ {X : Type 0} where
   append_none (x ∷ xs) = ap (λ l. x ∷ l) (append_none xs)
 
   pub stand_front : (xs ys more : List X) → StandIn xs ys → StandIn xs (ys ++ more)
-  stand_front xs ys more h = subst (λ l. StandIn l (ys ++ more)) (append_none xs) (stand_both xs ys [] more h tt)
+  stand_front xs ys more h =
+      subst (λ l. StandIn l (ys ++ more)) (append_none xs) (stand_both xs ys [] more h tt)
 
   pub stand_few : (xs ys : List X) → StandIn xs ys → length xs ≤ length ys
   stand_few [] ys h = omega arith
   stand_few (x ∷ xs) [] h = absurd h
   stand_few (x ∷ xs) (y ∷ ys) h =
-      ⊎_elim (λ p. let few = stand_few xs ys p.1 in omega (arith, few)) (λ q. let few = stand_few (x ∷ xs) ys q in omega (arith, few)) h
+      ⊎_elim (λ p. let few = stand_few xs ys p.1 in
+      omega (arith, few)) (λ q. let few = stand_few (x ∷ xs) ys q in omega (arith, few)) h
 
   -- as many elements are the same
   pub stand_all : (xs ys : List X) → StandIn xs ys → length ys ≤ length xs → ys ≡ xs
@@ -41,8 +45,10 @@ module _ {X : Type 0} where
       (λ q. let few = stand_few (x ∷ xs) ys q in absurd (omega (arith, few, n))) h
 
   module _ (test : X → Bool) where
-    one_more : (x y : X) (fx fy : List X) → x ≡ y → StandIn fx fy → StandIn (cond (test x) (x ∷ fx) fx) (cond (test y) (y ∷ fy) fy)
-    one_more x y fx fy e h = subst (λ z. StandIn (cond (test x) (x ∷ fx) fx) (cond (test z) (z ∷ fy) fy)) e (by_test (test x))
+    one_more : (x y : X) (fx fy : List X) → x ≡ y → StandIn fx fy
+        → StandIn (cond (test x) (x ∷ fx) fx) (cond (test y) (y ∷ fy) fy)
+    one_more x y fx fy e h =
+        subst (λ z. StandIn (cond (test x) (x ∷ fx) fx) (cond (test z) (z ∷ fy) fy)) e (by_test (test x))
       where
         by_test : (b : Bool) → StandIn (cond b (x ∷ fx) fx) (cond b (x ∷ fy) fy)
         by_test true = inl (refl, h)

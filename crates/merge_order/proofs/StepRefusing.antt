@@ -15,10 +15,15 @@ use Rattle.merge_order.specs.declared.step_fault.StepFault.TheVariants as fault
 
 -- where no bit step is ready
 module _ (f : AFeeder) (none : f.ready ≡ []) where
-  only : (left : Left) (e : AFault) → left ≡ only_fault e → ((bits_after f left).steps ≡ []) × ((bits_after f left).fault ≡ Some (Expands e))
-  only left e h = (ap (λ (l : Left). (bits_after f l).steps) h ∙ ap (λ (l : List SeenStep). l ++ []) none, ap (λ (l : Left). (bits_after f l).fault) h)
+  only : (left : Left) (e : AFault) → left ≡ only_fault e
+      → ((bits_after f left).steps ≡ []) × ((bits_after f left).fault ≡ Some (Expands e))
+  only left e h = (
+    ap (λ (l : Left). (bits_after f l).steps) h ∙ ap (λ (l : List SeenStep). l ++ []) none,
+    ap (λ (l : Left). (bits_after f l).fault) h,
+  )
 
-  pub refused_left : (left : Left) (e : ExpandFault) → RefusesLeft left e → Refuses (bits_after f left) (of_expand e)
+  pub refused_left : (left : Left) (e : ExpandFault) → RefusesLeft left e
+      → Refuses (bits_after f left) (of_expand e)
   refused_left left expand.OutOfMemory h = tt
   refused_left left (expand.NoProc at name) h = only left (IsNoProc at name.items) h
   refused_left left (expand.ArgCount at) h = only left (IsArgCount at) h

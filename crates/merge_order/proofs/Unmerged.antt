@@ -3,7 +3,8 @@ use Rattle.std.proofs.Common.{◌≡◌, ℕ, List, [], ◌∷◌, ◌++◌, Opt
 use Rattle.ij_text.specs.declared.Place.{Place}
 use Rattle.net_graph.specs.declared.net.Net.{Net}
 use Rattle.net_graph.specs.SeenSteps.{SeenStep}
-use Rattle.pdl_expand.specs.Values.{ADeed, Writes, Reads, Applies, Runs, Resets, BeginsMerge, EndsBranch, EndsMerge, AStep}
+use Rattle.pdl_expand.specs.Values.{ADeed, Writes, Reads, Applies, Runs, Resets, BeginsMerge, EndsBranch}
+use Rattle.pdl_expand.specs.Values.{EndsMerge, AStep}
 use Rattle.pdl_targets.specs.Binding.{Queue, Answer, Bound, bound, bound_from, empty, feed as bind, with_step}
 use Rattle.pdl_targets.specs.Rounds.{Places}
 use Rattle.pdl_targets.specs.Targets.{Found, Is as IsBound, Fails as IsRefused}
@@ -22,7 +23,8 @@ module _ (net : Net) (places : Places) where
   outside q = record { queue = q; merging = None }
 
   as_bound : (at : Place) (node : ℕ) (q : Queue) (d : ADeed) → IsNoMark d
-      → feed net places (outside q) (record { at = at; node = node; what = d }) ≡ answered None (bind net places q (record { at = at; node = node; what = d }))
+      → feed net places (outside q) (record { at = at; node = node; what = d })
+      ≡ answered None (bind net places q (record { at = at; node = node; what = d }))
   as_bound at node q (Writes target value) h = refl
   as_bound at node q (Reads target value) h = refl
   as_bound at node q Applies h = refl
@@ -32,13 +34,17 @@ module _ (net : Net) (places : Places) where
   as_bound at node q EndsBranch h = absurd h
   as_bound at node q EndsMerge h = absurd h
 
-  all_bound : (steps : List AStep) (q : Queue) → HaveNoMerge steps → fed net places (outside q) steps ≡ (bound_from net places q steps).steps
+  all_bound : (steps : List AStep) (q : Queue) → HaveNoMerge steps
+      → fed net places (outside q) steps ≡ (bound_from net places q steps).steps
   all_bound [] q h = refl
   all_bound (s ∷ ss) q h =
-      ap (fed_on net places ss) (as_bound s.at s.node q s.what h.0) ∙ by_answer (λ p. all_bound ss p h.1) (bind net places q s)
+      ap (fed_on net places ss) (as_bound s.at s.node q s.what h.0)
+      ∙ by_answer (λ p. all_bound ss p h.1) (bind net places q s)
     where
-      by_answer : ((p : Queue) → fed net places (outside p) ss ≡ (bound_from net places p ss).steps) → (x : Found Answer) → fed_on net places ss (answered None x) ≡ (bound_on net places ss x).steps
-      by_answer ih (IsBound answer) = ap (λ l. if_any answer.step ++ l) (ih answer.queue) ∙ with_same answer.step (bound_from net places answer.queue ss)
+      by_answer : ((p : Queue) → fed net places (outside p) ss ≡ (bound_from net places p ss).steps)
+          → (x : Found Answer) → fed_on net places ss (answered None x) ≡ (bound_on net places ss x).steps
+      by_answer ih (IsBound answer) = ap (λ l. if_any answer.step ++ l) (ih answer.queue)
+          ∙ with_same answer.step (bound_from net places answer.queue ss)
       by_answer ih (IsRefused fault) = refl
 
 pub others_are_bound : OthersAreBound

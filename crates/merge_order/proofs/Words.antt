@@ -3,7 +3,8 @@ use Rattle.std.proofs.Common.{◌≡◌, inl, inr, ◌<◌, ◌≤◌, ◌+◌, 
 use Rattle.std.proofs.lemmas.Bool.{cases_lt}
 
 -- those of the words before, and those in a word before one
-pub before_or_in : (f : ℕ → Bool) (from n k : ℕ) → ((i : ℕ) → i < from → f i ≡ true) → ((j : ℕ) → j < n → f (from + j) ≡ true) → k < from + n → f k ≡ true
+pub before_or_in : (f : ℕ → Bool) (from n k : ℕ) → ((i : ℕ) → i < from → f i ≡ true)
+    → ((j : ℕ) → j < n → f (from + j) ≡ true) → k < from + n → f k ≡ true
 before_or_in f from n k before within below =
     elim (cases_lt k from) [
       | inl low ↦ before k low

@@ -9,4 +9,5 @@ use Rattle.merge_order.specs.Feeding.{State, Is, Fails, feed}
 -- the bit steps that become ready from a state on, up to the first fault
 abbrev pub fed : Net → Places → State → List AStep → List SeenStep
 fed net places s [] = []
-fed net places s (step ∷ steps) = elim (feed net places s step) [ Is next ready ↦ ready ++ fed net places next steps | Fails fault ↦ [] ]
+fed net places s (step ∷ steps) =
+    elim (feed net places s step) [ Is next ready ↦ ready ++ fed net places next steps | Fails fault ↦ [] ]

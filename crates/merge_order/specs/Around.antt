@@ -8,4 +8,5 @@ use Rattle.merge_order.specs.declared.around.Around.{Around}
 
 -- the rows around the last register are among those that there are
 abbrev pub HasLast : Places → Around → Type 0
-HasLast places a = IfSome a.last (λ r. (test : Branch → Bool) → (list_any test a.rows.items || list_any test (places r)) ≡ list_any test a.rows.items)
+HasLast places a = IfSome a.last (λ r. (test : Branch → Bool)
+    → (list_any test a.rows.items || list_any test (places r)) ≡ list_any test a.rows.items)

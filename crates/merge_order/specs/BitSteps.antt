@@ -1,4 +1,5 @@
--- The bit steps of a procedure of a network (IEEE 1687-2014, PDL level 0): its steps, each bound to register bits.
+-- The bit steps of a procedure of a network (IEEE 1687-2014, PDL level 0): its steps, each bound to register
+-- bits.
 use Rattle.std.specs.Prelude.{ℕ, List, [], ◌∷◌, ◌++◌, Option, Some, None}
 use Rattle.std.specs.Option.{option_map}
 use Rattle.net_graph.specs.declared.net.Net.{Net}
@@ -12,7 +13,8 @@ use Rattle.pdl_expand.specs.Expansion.{AFault as ExpandFault, expansion}
 use Rattle.pdl_targets.specs.Binding.{finish}
 use Rattle.pdl_targets.specs.Rounds.{Places}
 use Rattle.pdl_targets.specs.SeenPlaces.{places_in}
-use Rattle.merge_order.specs.Feeding.{AFault as FeedFault, Targets as IsTarget, State, Fed, Is, Fails, begin, feed}
+use Rattle.merge_order.specs.Feeding.{AFault as FeedFault, Targets as IsTarget, State, Fed, Is, Fails, begin}
+use Rattle.merge_order.specs.Feeding.{feed}
 
 -- why a procedure has no further bit step
 pub data AFault : Type 0 where
@@ -38,8 +40,8 @@ given_first_bit s left = record { steps = s ∷ left.steps; fault = left.fault }
 abbrev pub with_ready : List SeenStep → BitStepsOf → BitStepsOf
 with_ready ready b = record { steps = ready ++ b.steps; fault = b.fault }
 
--- The end after the last step: in the fault of the expansion, if it has one. Only a procedure that comes to its end is asked
--- whether an iApply is missing.
+-- The end after the last step: in the fault of the expansion, if it has one. Only a procedure that comes to
+-- its end is asked whether an iApply is missing.
 abbrev pub end_of : Option ExpandFault → State → Option AFault
 end_of None s = option_map (λ e. Feeds (IsTarget e)) (finish s.queue)
 end_of (Some fault) s = Some (Expands fault)
@@ -52,7 +54,8 @@ answered (Fails fault) more = ends (Some (Feeds fault))
 -- steps taken in one after the other after a state: up to the first that is refused, or up to the end
 abbrev pub bits_from : Net → Places → State → List AStep → Option ExpandFault → BitStepsOf
 bits_from net places s [] fault = ends (end_of fault s)
-bits_from net places s (step ∷ steps) fault = answered (feed net places s step) (λ t. bits_from net places t steps fault)
+bits_from net places s (step ∷ steps) fault =
+    answered (feed net places s step) (λ t. bits_from net places t steps fault)
 
 -- the bit steps of what is left of a procedure
 abbrev pub bits_of : Net → Places → State → Left → BitStepsOf
@@ -60,4 +63,5 @@ bits_of net places s left = bits_from net places s left.steps left.fault
 
 -- the bit steps of a procedure of the top module, up to its end or to its first fault
 unfoldable pub bit_steps : List AProc → Net → Items → List ℕ → BitStepsOf
-bit_steps procs net form name = bits_of net (places_in form) begin (left_in (expansion procs (cells_of net) name))
+bit_steps procs net form name =
+    bits_of net (places_in form) begin (left_in (expansion procs (cells_of net) name))

@@ -1,10 +1,11 @@
--- What each step of a procedure with merges comes to (IEEE 1687-2014, PDL level 0: iMerge): the bit steps of a merge are
--- ready at its end, all others at once.
+-- What each step of a procedure with merges comes to (IEEE 1687-2014, PDL level 0: iMerge): the bit steps of
+-- a merge are ready at its end, all others at once.
 use Rattle.std.specs.Prelude.{List, [], ◌∷◌, ◌++◌, Option, Some, None}
 use Rattle.ij_text.specs.declared.Place.{Place}
 use Rattle.net_graph.specs.declared.net.Net.{Net}
 use Rattle.net_graph.specs.SeenSteps.{SeenStep}
-use Rattle.pdl_expand.specs.Values.{ADeed, Writes, Reads, Applies, Runs, Resets, BeginsMerge, EndsBranch, EndsMerge, AStep}
+use Rattle.pdl_expand.specs.Values.{ADeed, Writes, Reads, Applies, Runs, Resets, BeginsMerge, EndsBranch}
+use Rattle.pdl_expand.specs.Values.{EndsMerge, AStep}
 use Rattle.pdl_targets.specs.Binding.{Queue, Answer, empty, feed as bind, finish}
 use Rattle.pdl_targets.specs.Rounds.{Places}
 use Rattle.pdl_targets.specs.Targets.{AFault as TargetFault, Found, Is as IsBound, Fails as IsRefused}
@@ -29,7 +30,8 @@ pub record State : Type 0 where
 abbrev pub begin : State
 begin = record { queue = empty; merging = None }
 
--- what a step comes to: the state after it, and the bit steps that become ready; or the fault in place of them
+-- what a step comes to: the state after it, and the bit steps that become ready; or the fault in place of
+-- them
 pub data Fed : Type 0 where
   Is : State → List SeenStep → Fed
   Fails : AFault → Fed
@@ -37,7 +39,10 @@ pub data Fed : Type 0 where
 -- a bit step is ready at once, or waits for the end of the merge
 abbrev pub given : Option Merging → Answer → Fed
 given None answer = Is (record { queue = answer.queue; merging = None }) (if_any answer.step)
-given (Some m) answer = Is (record { queue = answer.queue; merging = Some (record { branches = m.branches; next = m.next ++ if_any answer.step }) }) []
+given (Some m) answer = Is (record {
+  queue = answer.queue;
+  merging = Some (record { branches = m.branches; next = m.next ++ if_any answer.step });
+}) []
 
 abbrev pub answered : Option Merging → Found Answer → Fed
 answered merging (IsBound answer) = given merging answer
@@ -62,17 +67,26 @@ begin_merge at s = elim s.merging [
 ]
 
 abbrev pub end_branch : State → Fed
-end_branch s = elim s.merging [ None ↦ Is s [] | Some m ↦ if_applied (finish s.queue) (record s { merging = Some (branch_ended m) }) ]
+end_branch s = elim s.merging [
+  | None ↦ Is s []
+  | Some m ↦ if_applied (finish s.queue) (record s { merging = Some (branch_ended m) })
+]
 
 abbrev pub end_merge : Places → State → Fed
-end_merge places s = elim s.merging [ None ↦ Is s [] | Some m ↦ Is (record s { merging = None }) (merged places m.branches) ]
+end_merge places s = elim s.merging [
+  | None ↦ Is s []
+  | Some m ↦ Is (record s { merging = None }) (merged places m.branches)
+]
 
 abbrev pub bind_step : Net → Places → State → AStep → Fed
 bind_step net places s step = answered s.merging (bind net places s.queue step)
 
 -- no iReset stands in a merge
 abbrev pub reset : Net → Places → State → AStep → Fed
-reset net places s step = elim s.merging [ None ↦ answered None (bind net places s.queue step) | Some m ↦ Fails (IsMergeReset step.at) ]
+reset net places s step = elim s.merging [
+  | None ↦ answered None (bind net places s.queue step)
+  | Some m ↦ Fails (IsMergeReset step.at)
+]
 
 abbrev pub feed : Net → Places → State → AStep → Fed
 feed net places s step = deed step.what

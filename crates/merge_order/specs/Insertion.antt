@@ -1,5 +1,6 @@
 -- The joins of a turn, one iApply after the other: each goes into the first join that can take it.
-use Rattle.std.specs.Prelude.{ℕ, zero, suc, Bool, false, true, not, ◌&&◌, cond, List, [], ◌∷◌, ◌++◌, slice_index_or}
+use Rattle.std.specs.Prelude.{ℕ, zero, suc, Bool, false, true, not, ◌&&◌, cond, List, [], ◌∷◌, ◌++◌}
+use Rattle.std.specs.Prelude.{slice_index_or}
 use Rattle.net_graph.specs.SeenSteps.{SeenGroup}
 use Rattle.pdl_targets.specs.Rounds.{Places}
 use Rattle.merge_order.specs.Merge.{both, can_join}
@@ -31,7 +32,8 @@ with_round join h = both (open_round join) h ∷ []
 -- a round goes into the first join that can take it, or is one after
 abbrev pub put_round : Places → SeenGroup → List (List SeenGroup) → List (List SeenGroup)
 put_round places h [] = (h ∷ []) ∷ []
-put_round places h (join ∷ joins) = cond (takes places join h) (with_round join h ∷ joins) (join ∷ put_round places h joins)
+put_round places h (join ∷ joins) =
+    cond (takes places join h) (with_round join h ∷ joins) (join ∷ put_round places h joins)
 
 -- an iApply of one round goes where its round goes, and any other is a join after
 abbrev pub put_in : Places → List (List SeenGroup) → List SeenGroup → List (List SeenGroup)

@@ -1,12 +1,14 @@
 -- What follows for merges.
-use Rattle.std.specs.Prelude.{◌≡◌, ◌≤◌, ◌+◌, ℕ, Bool, List, [], ◌∷◌, ◌++◌, filter, flat_map, length, Some, All}
+use Rattle.std.specs.Prelude.{◌≡◌, ◌≤◌, ◌+◌, ℕ, Bool, List, [], ◌∷◌, ◌++◌, filter, flat_map, length, Some}
+use Rattle.std.specs.Prelude.{All}
 use Rattle.net_graph.specs.declared.net.Net.{Net}
 use Rattle.net_graph.specs.declared.step.ReadBit.{ReadBit}
 use Rattle.net_graph.specs.declared.step.WriteBit.{WriteBit}
 use Rattle.net_graph.specs.Nets.{IsNet}
 use Rattle.net_graph.specs.SeenSteps.{SeenStep, Apply, Run, Reset}
 use Rattle.net_graph.specs.Steps.{IsStep}
-use Rattle.pdl_expand.specs.Values.{ADeed, Writes, Reads, Applies, Runs, Resets, BeginsMerge, EndsBranch, EndsMerge, AStep}
+use Rattle.pdl_expand.specs.Values.{ADeed, Writes, Reads, Applies, Runs, Resets, BeginsMerge, EndsBranch}
+use Rattle.pdl_expand.specs.Values.{EndsMerge, AStep}
 use Rattle.pdl_targets.specs.Binding.{bound}
 use Rattle.pdl_targets.specs.Laws.{HasPaths, cycles_in, cycles_of, rounds_in, rounds_of}
 use Rattle.pdl_targets.specs.Rounds.{Places}
@@ -36,11 +38,13 @@ NoBranchDoesNothing = (places : Places) → merged places [] ≡ []
 
 -- the bit steps of a merge are of the network where those of its branches are
 abbrev pub MergedStepsAreOfTheNetwork : Type 0
-MergedStepsAreOfTheNetwork = (net : Net) (places : Places) (branches : List Branch) → All (All (IsStep net)) branches → All (IsStep net) (merged places branches)
+MergedStepsAreOfTheNetwork = (net : Net) (places : Places) (branches : List Branch)
+    → All (All (IsStep net)) branches → All (IsStep net) (merged places branches)
 
 -- and their registers can be on one path where those of its branches can
 abbrev pub MergedStepsHavePaths : Type 0
-MergedStepsHavePaths = (places : Places) (branches : List Branch) → All (All (HasPaths places)) branches → All (HasPaths places) (merged places branches)
+MergedStepsHavePaths = (places : Places) (branches : List Branch) → All (All (HasPaths places)) branches
+    → All (HasPaths places) (merged places branches)
 
 -- ---- a merge asks for no more than its branches together
 
@@ -50,18 +54,22 @@ in_all count [] = 0
 in_all count (b ∷ bs) = count b + in_all count bs
 
 abbrev pub MergedStepsAreFew : Type 0
-MergedStepsAreFew = (places : Places) (branches : List Branch) → length (merged places branches) ≤ in_all (λ b. length b) branches
+MergedStepsAreFew = (places : Places) (branches : List Branch)
+    → length (merged places branches) ≤ in_all (λ b. length b) branches
 
 abbrev pub MergedRoundsAreFew : Type 0
-MergedRoundsAreFew = (places : Places) (branches : List Branch) → rounds_in (merged places branches) ≤ in_all rounds_in branches
+MergedRoundsAreFew = (places : Places) (branches : List Branch)
+    → rounds_in (merged places branches) ≤ in_all rounds_in branches
 
 abbrev pub MergedCyclesAreFew : Type 0
-MergedCyclesAreFew = (places : Places) (branches : List Branch) → cycles_in (merged places branches) ≤ in_all cycles_in branches
+MergedCyclesAreFew = (places : Places) (branches : List Branch)
+    → cycles_in (merged places branches) ≤ in_all cycles_in branches
 
 -- no run is longer than the longest of a branch
 abbrev pub MergedRunsAreShort : Type 0
 MergedRunsAreShort = (places : Places) (branches : List Branch) (n : ℕ)
-    → All (All (λ s. cycles_of (Some s) ≤ n)) branches → All (λ s. cycles_of (Some s) ≤ n) (merged places branches)
+    → All (All (λ s. cycles_of (Some s) ≤ n)) branches
+    → All (λ s. cycles_of (Some s) ≤ n) (merged places branches)
 
 -- ---- a merge does what its branches do
 
@@ -74,40 +82,49 @@ abbrev pub reads_in : List SeenStep → List ReadBit
 reads_in [] = []
 reads_in (s ∷ ss) = flat_map (λ g. g.reads) (rounds_of (Some s)) ++ reads_in ss
 
--- a merge has each write of its branches, as often as they have it together, by whatever test one tells them apart
+-- a merge has each write of its branches, as often as they have it together, by whatever test one tells them
+-- apart
 abbrev pub MergesHaveEachWrite : Type 0
 MergesHaveEachWrite = (places : Places) (branches : List Branch) (test : WriteBit → Bool)
-    → length (filter test (writes_in (merged places branches))) ≡ in_all (λ b. length (filter test (writes_in b))) branches
+    → length (filter test (writes_in (merged places branches)))
+    ≡ in_all (λ b. length (filter test (writes_in b))) branches
 
 -- and each read
 abbrev pub MergesHaveEachRead : Type 0
 MergesHaveEachRead = (places : Places) (branches : List Branch) (test : ReadBit → Bool)
-    → length (filter test (reads_in (merged places branches))) ≡ in_all (λ b. length (filter test (reads_in b))) branches
+    → length (filter test (reads_in (merged places branches)))
+    ≡ in_all (λ b. length (filter test (reads_in b))) branches
 
 -- ---- all steps of a procedure
 
 -- what becomes ready is of the network, where this is well formed
 abbrev pub FedStepsAreOfTheNetwork : Type 0
-FedStepsAreOfTheNetwork = (net : Net) (places : Places) (steps : List AStep) → IsNet net → All (IsStep net) (fed net places begin steps)
+FedStepsAreOfTheNetwork = (net : Net) (places : Places) (steps : List AStep) → IsNet net
+    → All (IsStep net) (fed net places begin steps)
 
 -- each round of an iApply names something, and its registers can be on one path
 abbrev pub FedStepsHavePaths : Type 0
-FedStepsHavePaths = (net : Net) (places : Places) (steps : List AStep) → All (HasPaths places) (fed net places begin steps)
+FedStepsHavePaths = (net : Net) (places : Places) (steps : List AStep)
+    → All (HasPaths places) (fed net places begin steps)
 
 -- at most as many bit steps become ready as there are steps
 abbrev pub FedStepsAreFew : Type 0
-FedStepsAreFew = (net : Net) (places : Places) (steps : List AStep) → length (fed net places begin steps) ≤ length steps
+FedStepsAreFew = (net : Net) (places : Places) (steps : List AStep)
+    → length (fed net places begin steps) ≤ length steps
 
 -- with at most 4096 rounds
 abbrev pub FedRoundsAreFew : Type 0
-FedRoundsAreFew = (net : Net) (places : Places) (steps : List AStep) → rounds_in (fed net places begin steps) ≤ 4096
+FedRoundsAreFew = (net : Net) (places : Places) (steps : List AStep)
+    → rounds_in (fed net places begin steps) ≤ 4096
 
 -- and at most 4,000,000 run cycles, at most 1,000,000 of them in one run
 abbrev pub FedCyclesAreFew : Type 0
-FedCyclesAreFew = (net : Net) (places : Places) (steps : List AStep) → cycles_in (fed net places begin steps) ≤ 4000000
+FedCyclesAreFew = (net : Net) (places : Places) (steps : List AStep)
+    → cycles_in (fed net places begin steps) ≤ 4000000
 
 abbrev pub FedRunsAreShort : Type 0
-FedRunsAreShort = (net : Net) (places : Places) (steps : List AStep) → All (λ s. cycles_of (Some s) ≤ 1000000) (fed net places begin steps)
+FedRunsAreShort = (net : Net) (places : Places) (steps : List AStep)
+    → All (λ s. cycles_of (Some s) ≤ 1000000) (fed net places begin steps)
 
 -- ---- a procedure without merges
 
@@ -127,4 +144,5 @@ HaveNoMerge (s ∷ ss) = IsNoMark s.what × HaveNoMerge ss
 
 -- what becomes ready is what binding gives
 abbrev pub OthersAreBound : Type 0
-OthersAreBound = (net : Net) (places : Places) (steps : List AStep) → HaveNoMerge steps → fed net places begin steps ≡ (bound net places steps).steps
+OthersAreBound = (net : Net) (places : Places) (steps : List AStep) → HaveNoMerge steps
+    → fed net places begin steps ≡ (bound net places steps).steps

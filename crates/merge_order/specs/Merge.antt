@@ -1,5 +1,7 @@
--- The bit steps of a merge (IEEE 1687-2014, PDL level 0: iMerge): its calls are branches that advance turn by turn.
-use Rattle.std.specs.Prelude.{ℕ, zero, suc, max, Bool, false, not, ◌&&◌, ◌||◌, cond, List, [], ◌∷◌, ◌++◌, length, map, Option, Some, None}
+-- The bit steps of a merge (IEEE 1687-2014, PDL level 0: iMerge): its calls are branches that advance turn by
+-- turn.
+use Rattle.std.specs.Prelude.{ℕ, zero, suc, max, Bool, false, not, ◌&&◌, ◌||◌, cond, List, [], ◌∷◌, ◌++◌}
+use Rattle.std.specs.Prelude.{length, map, Option, Some, None}
 use Rattle.std.specs.List.{list_any}
 use Rattle.net_graph.specs.declared.net.BitId.{BitId}
 use Rattle.net_graph.specs.Path.{same_place}
@@ -23,11 +25,13 @@ share_bit g h = list_any (λ w. names h w.bit) g.writes || list_any (λ r. names
 
 -- a register can't be on one path with one that a round names
 abbrev pub clashes_with : Places → SeenGroup → ℕ → Bool
-clashes_with places g q = list_any (λ w. clash places q w.bit.reg) g.writes || list_any (λ r. clash places q r.bit.reg) g.reads
+clashes_with places g q =
+    list_any (λ w. clash places q w.bit.reg) g.writes || list_any (λ r. clash places q r.bit.reg) g.reads
 
 -- two rounds name registers that can't be on one path
 abbrev pub part_ways : Places → SeenGroup → SeenGroup → Bool
-part_ways places g h = list_any (λ w. clashes_with places h w.bit.reg) g.writes || list_any (λ r. clashes_with places h r.bit.reg) g.reads
+part_ways places g h = list_any (λ w. clashes_with places h w.bit.reg) g.writes || list_any
+    (λ r. clashes_with places h r.bit.reg) g.reads
 
 abbrev pub can_join : Places → SeenGroup → SeenGroup → Bool
 can_join places g h = not (share_bit g h) && not (part_ways places g h)
@@ -57,12 +61,14 @@ with_first g (h ∷ more) = both g h
 -- one round with that of each later iApply that joins what is joined so far
 abbrev pub joined : Places → SeenGroup → List (List SeenGroup) → SeenGroup
 joined places g [] = g
-joined places g (a ∷ later) = cond (joins places g a) (joined places (with_first g a) later) (joined places g later)
+joined places g (a ∷ later) =
+    cond (joins places g a) (joined places (with_first g a) later) (joined places g later)
 
 -- the later iApplys that don't join
 abbrev pub unjoined : Places → SeenGroup → List (List SeenGroup) → List (List SeenGroup)
 unjoined places g [] = []
-unjoined places g (a ∷ later) = cond (joins places g a) (unjoined places (with_first g a) later) (a ∷ unjoined places g later)
+unjoined places g (a ∷ later) =
+    cond (joins places g a) (unjoined places (with_first g a) later) (a ∷ unjoined places g later)
 
 -- the first iApply with those that join it; where it has more rounds than one, none does
 abbrev pub first_join : Places → List SeenGroup → List (List SeenGroup) → List SeenGroup
@@ -80,7 +86,8 @@ after_first places (g ∷ h ∷ more) later = later
 abbrev pub joins_upto : Places → ℕ → List (List SeenGroup) → List (List SeenGroup)
 joins_upto places zero applies = []
 joins_upto places (suc n) [] = []
-joins_upto places (suc n) (a ∷ later) = first_join places a later ∷ joins_upto places n (after_first places a later)
+joins_upto places (suc n) (a ∷ later) =
+    first_join places a later ∷ joins_upto places n (after_first places a later)
 
 abbrev pub all_joins : Places → List (List SeenGroup) → List (List SeenGroup)
 all_joins places applies = joins_upto places (length applies) applies

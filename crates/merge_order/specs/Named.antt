@@ -15,8 +15,10 @@ use Rattle.merge_order.specs.Tables.{has_bit, is_shut, names_one, rows_around}
 pub record Tells (places : Places) (t : Named) (joins : List (List SeenGroup)) : Type 0 where
   pub closed : (k : ℕ) → is_shut t.bits k ≡ is_closed (join_at joins k)
   pub bits : (k : ℕ) (b : BitId) → has_bit t.bits b k ≡ names (open_round (join_at joins k)) b
-  pub rows : (k : ℕ) (b : Branch) → excluded_at t.rows b k ≡ list_any (λ a. exclude a b) (rows_around places (open_round (join_at joins k)))
+  pub rows : (k : ℕ) (b : Branch) → excluded_at t.rows b k
+      ≡ list_any (λ a. exclude a b) (rows_around places (open_round (join_at joins k)))
 
 -- the tables say that a join can't take a round with these rows around it
 abbrev pub refuses : Named → SeenGroup → List Branch → ℕ → Bool
-refuses t h around k = (is_shut t.bits k || names_one t.bits h k) || list_any (λ b. excluded_at t.rows b k) around
+refuses t h around k =
+    (is_shut t.bits k || names_one t.bits h k) || list_any (λ b. excluded_at t.rows b k) around

@@ -20,7 +20,8 @@ DoRounds [] (g ∷ gs) = ⊥
 DoRounds (h ∷ hs) [] = ⊥
 DoRounds (h ∷ hs) (g ∷ gs) = DoesRound h g × DoRounds hs gs
 
--- a bit step does what another does: an iApply does its writes and reads, round by round, a run takes at least its clocks
+-- a bit step does what another does: an iApply does its writes and reads, round by round, a run takes at
+-- least its clocks
 abbrev pub Does : SeenStep → SeenStep → Type 0
 Does (Apply hs) (Apply gs) = DoRounds hs gs
 Does (Apply hs) (Run n) = ⊥

@@ -1,7 +1,8 @@
 -- The faults of the calls, as the definitions say them.
 use Rattle.std.specs.Prelude.{◌≡◌, [], Option, Some, None}
 use Rattle.std.specs.Option.{option_map}
-use Rattle.pdl_expand.specs.Expansion.{AFault as AnExpandFault, IsNoProc, IsArgCount, IsTooManySteps, IsNoName, IsCallDepth}
+use Rattle.pdl_expand.specs.Expansion.{AFault as AnExpandFault, IsNoProc, IsArgCount, IsTooManySteps}
+use Rattle.pdl_expand.specs.Expansion.{IsNoName, IsCallDepth}
 use Rattle.pdl_expand.specs.declared.fault.ExpandFault.{ExpandFault}
 use Rattle.pdl_expand.specs.declared.fault.ExpandFault.TheVariants as expand
 use Rattle.pdl_targets.specs.Seen.{fault_of as target_fault}
@@ -33,8 +34,8 @@ abbrev pub Ends : Option AFault → Option AFault → Type 0
 Ends end None = ⊥
 Ends end (Some fault) = end ≡ Some fault
 
--- A procedure ends in the fault that a refusal says. Want of memory alone is free; it is `OutOfMemory`, and no refusal holds
--- the want of memory of another crate.
+-- A procedure ends in the fault that a refusal says. Want of memory alone is free; it is `OutOfMemory`, and
+-- no refusal holds the want of memory of another crate.
 abbrev pub EndsIn : Option AFault → StepFault → Type 0
 EndsIn end fault.OutOfMemory = Unit {0}
 EndsIn end (fault.Expand e) = Ends end (option_map Expands (expand_fault e))

@@ -13,8 +13,8 @@ abbrev pub FailsBy : Fed → Option AFault → Type 0
 FailsBy fed None = ⊥
 FailsBy fed (Some f) = fed ≡ Fails f
 
--- A refusal says the fault that a step comes to. Want of memory alone is free; it is `OutOfMemory`, and no refusal holds the
--- want of memory of another crate.
+-- A refusal says the fault that a step comes to. Want of memory alone is free; it is `OutOfMemory`, and no
+-- refusal holds the want of memory of another crate.
 abbrev pub Refuses : Fed → FeedFault → Type 0
 Refuses fed fault.OutOfMemory = Unit {0}
 Refuses fed (fault.MergeInside at) = fed ≡ Fails (IsMergeInside at)

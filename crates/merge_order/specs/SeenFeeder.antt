@@ -32,7 +32,15 @@ abbrev pub seen_begun : Begun → Merging
 seen_begun b = record { branches = seen_lists b.branches.items; next = seen_steps b.next.items }
 
 abbrev pub seen_feed : Feed → AFeeder
-seen_feed f = record { net = f.binder.net; form = f.binder.form; state = record { queue = f.binder.queue; merging = option_map seen_begun f.merging }; ready = seen_steps f.ready.items }
+seen_feed f = record {
+  net = f.binder.net;
+  form = f.binder.form;
+  state = record {
+    queue = f.binder.queue;
+    merging = option_map seen_begun f.merging;
+  };
+  ready = seen_steps f.ready.items;
+}
 
 -- the binder is one of the tree
 abbrev pub HasItsTree : Feed → Type 0

@@ -30,7 +30,8 @@ StepsLeft = Left
 abbrev pub left_of : Progress → BitStepsOf
 left_of p = bits_after p.feeder (steps_of p)
 
--- the iReads that were taken in and the steps that are left are at most 100,000 together, so a feeder can count them
+-- the iReads that were taken in and the steps that are left are at most 100,000 together, so a feeder can
+-- count them
 pub record IsUnderWay (p : Progress) : Type 0 where
   pub few : p.feeder.state.queue.asked + length (steps_of p).steps ≤ 100000
 
@@ -38,5 +39,6 @@ pub record IsUnderWay (p : Progress) : Type 0 where
 
 -- a move takes a step, or comes to the end
 abbrev pub Moves : Progress → Progress → Move → Type 0
-Moves old new move.Went = (left_of old ≡ left_of new) × (length (steps_of new).steps < length (steps_of old).steps)
+Moves old new move.Went = (left_of old ≡ left_of new)
+    × (length (steps_of new).steps < length (steps_of old).steps)
 Moves old new move.Ended = (left_of old ≡ nothing_left) × (left_of new ≡ nothing_left)

@@ -1,5 +1,5 @@
--- What the joins of a turn name, in tables that grow as joins are put in. A set counts where its stamp is that of the table, so that
--- a new stamp empties the table.
+-- What the joins of a turn name, in tables that grow as joins are put in. A set counts where its stamp is
+-- that of the table, so that a new stamp empties the table.
 use Rattle.std.specs.Prelude.{◌≡◌, ◌≤◌, ℕ, Bool, ◌||◌, List, [], ◌++◌, flat_map, slice_index_or}
 use Rattle.std.specs.List.{list_any}
 use Rattle.net_graph.specs.declared.branch.Branch.{Branch}

@@ -43,7 +43,8 @@ impl Around {
     /// Adds the rows around a register, if it isn't the last one.
     fn add(&mut self, tree: &Tree, register: u32) -> Result<(), OutOfMemory>
         requires { HasLast (places_in tree.now) self.old }
-        ensures rows { OnOk result ((test : ABranch → Bool) → list_any test self.new.rows.items ≡ (list_any test self.old.rows.items || list_any test (places_in tree.now register))) }
+        ensures rows { OnOk result ((test : ABranch → Bool) → list_any test self.new.rows.items
+            ≡ (list_any test self.old.rows.items || list_any test (places_in tree.now register))) }
         ensures last { OnOk result (HasLast (places_in tree.now) self.new) }
     {
         if self.is_last(register) {
@@ -57,7 +58,9 @@ impl Around {
     /// Adds the rows around the registers of some writes.
     fn add_written(&mut self, tree: &Tree, writes: &[WriteBit]) -> Result<(), OutOfMemory>
         requires { HasLast (places_in tree.now) self.old }
-        ensures rows { OnOk result ((test : ABranch → Bool) → list_any test self.new.rows.items ≡ (list_any test self.old.rows.items || list_any test (flat_map (λ w. places_in tree.now w.bit.reg) writes.now))) }
+        ensures rows { OnOk result ((test : ABranch → Bool)
+            → list_any test self.new.rows.items ≡ (list_any test self.old.rows.items || list_any test
+            (flat_map (λ w. places_in tree.now w.bit.reg) writes.now))) }
         ensures last { OnOk result (HasLast (places_in tree.now) self.new) }
     {
         for write in writes {
@@ -69,7 +72,9 @@ impl Around {
     /// Adds the rows around the registers of some reads.
     fn add_read(&mut self, tree: &Tree, reads: &[ReadBit]) -> Result<(), OutOfMemory>
         requires { HasLast (places_in tree.now) self.old }
-        ensures rows { OnOk result ((test : ABranch → Bool) → list_any test self.new.rows.items ≡ (list_any test self.old.rows.items || list_any test (flat_map (λ r. places_in tree.now r.bit.reg) reads.now))) }
+        ensures rows { OnOk result ((test : ABranch → Bool)
+            → list_any test self.new.rows.items ≡ (list_any test self.old.rows.items || list_any test
+            (flat_map (λ r. places_in tree.now r.bit.reg) reads.now))) }
         ensures last { OnOk result (HasLast (places_in tree.now) self.new) }
     {
         for read in reads {
@@ -79,13 +84,15 @@ impl Around {
     }
 }
 
-/// The rows around the registers that a round names. A register is looked up once for bits of it that follow each other.
+/// The rows around the registers that a round names. A register is looked up once for bits of it that follow
+/// each other.
 pub(crate) fn rows_around(
     alloc: Global,
     tree: &Tree,
     group: &Group,
 ) -> Result<List<Branch>, OutOfMemory>
-    ensures { IfOk result (λ rows. SameRows rows.items (rows_around (places_in tree.now) (seen_group group.now))) }
+    ensures { IfOk result
+        (λ rows. SameRows rows.items (rows_around (places_in tree.now) (seen_group group.now))) }
 {
     let mut around = Around {
         rows: List::new(alloc),

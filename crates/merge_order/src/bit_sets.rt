@@ -66,7 +66,8 @@ impl RegSets {
 
     /// A join names the bit at a position.
     fn put(&mut self, alloc: Global, stamp: u32, pos: u32, join: u32) -> Result<(), OutOfMemory>
-        ensures put { OnOk result ((p k : ℕ) → has_round stamp (row_at self.new p) k ≡ (k == join && p == pos || has_round stamp (row_at self.old p) k)) }
+        ensures put { OnOk result ((p k : ℕ) → has_round stamp (row_at self.new p) k
+            ≡ (k == join && p == pos || has_round stamp (row_at self.old p) k)) }
         ensures stamps { AreStamped stamp self.old → AreStamped stamp self.new }
     {
         let pos = pos as usize;
@@ -96,8 +97,11 @@ fn put(
     bit: BitId,
     join: u32,
 ) -> Result<(), OutOfMemory>
-    ensures put { OnOk result ((b : ABit) (k : ℕ) → has_round stamp (row_at (sets_of regs.new.items b.reg) b.pos) k ≡ (k == join && same_place b bit || has_round stamp (row_at (sets_of regs.old.items b.reg) b.pos) k)) }
-    ensures stamps { ((reg : ℕ) → AreStamped stamp (sets_of regs.old.items reg)) → (reg : ℕ) → AreStamped stamp (sets_of regs.new.items reg) }
+    ensures put { OnOk result ((b : ABit) (k : ℕ)
+        → has_round stamp (row_at (sets_of regs.new.items b.reg) b.pos) k ≡
+        (k == join && same_place b bit || has_round stamp (row_at (sets_of regs.old.items b.reg) b.pos) k)) }
+    ensures stamps { ((reg : ℕ) → AreStamped stamp (sets_of regs.old.items reg)) → (reg : ℕ)
+        → AreStamped stamp (sets_of regs.new.items reg) }
 {
     let reg = bit.reg as usize;
     grow_regs(alloc, regs, reg + 1)?;
@@ -106,8 +110,8 @@ fn put(
     Ok(())
 }
 
-/// For each bit the joins that name it, and the joins that nothing joins. Whether a join of 64 names a bit is found without a search,
-/// and all are taken out at once.
+/// For each bit the joins that name it, and the joins that nothing joins. Whether a join of 64 names a bit is
+/// found without a search, and all are taken out at once.
 #[derive(Drop)]
 pub(crate) struct BitSets {
     alloc: Global,
@@ -166,7 +170,8 @@ impl BitSets {
 
     /// A join names a bit.
     fn add(&mut self, bit: BitId, join: u32) -> Result<(), OutOfMemory>
-        ensures bits { OnOk result ((b : ABit) (k : ℕ) → has_bit self.new b k ≡ (k == join && same_place b bit || has_bit self.old b k)) }
+        ensures bits { OnOk result ((b : ABit) (k : ℕ)
+            → has_bit self.new b k ≡ (k == join && same_place b bit || has_bit self.old b k)) }
         ensures closed { OnOk result ((k : ℕ) → is_shut self.new k ≡ is_shut self.old k) }
     {
         put(self.alloc, &mut self.regs, self.stamp, bit, join)
@@ -174,7 +179,8 @@ impl BitSets {
 
     /// A join names the bits of some writes.
     fn add_written(&mut self, writes: &[WriteBit], join: u32) -> Result<(), OutOfMemory>
-        ensures bits { OnOk result ((b : ABit) (k : ℕ) → has_bit self.new b k ≡ (k == join && list_any (λ w. same_place b w.bit) writes.now || has_bit self.old b k)) }
+        ensures bits { OnOk result ((b : ABit) (k : ℕ) → has_bit self.new b k
+            ≡ (k == join && list_any (λ w. same_place b w.bit) writes.now || has_bit self.old b k)) }
         ensures closed { OnOk result ((k : ℕ) → is_shut self.new k ≡ is_shut self.old k) }
     {
         for write in writes {
@@ -185,7 +191,8 @@ impl BitSets {
 
     /// A join names the bits of some reads.
     fn add_read(&mut self, reads: &[ReadBit], join: u32) -> Result<(), OutOfMemory>
-        ensures bits { OnOk result ((b : ABit) (k : ℕ) → has_bit self.new b k ≡ (k == join && list_any (λ r. same_place b r.bit) reads.now || has_bit self.old b k)) }
+        ensures bits { OnOk result ((b : ABit) (k : ℕ) → has_bit self.new b k
+            ≡ (k == join && list_any (λ r. same_place b r.bit) reads.now || has_bit self.old b k)) }
         ensures closed { OnOk result ((k : ℕ) → is_shut self.new k ≡ is_shut self.old k) }
     {
         for read in reads {
@@ -196,7 +203,8 @@ impl BitSets {
 
     /// A join names the bits that a round names.
     pub fn add_named(&mut self, group: &Group, join: u32) -> Result<(), OutOfMemory>
-        ensures bits { OnOk result ((b : ABit) (k : ℕ) → has_bit self.new b k ≡ (k == join && names (seen_group group.now) b || has_bit self.old b k)) }
+        ensures bits { OnOk result ((b : ABit) (k : ℕ)
+            → has_bit self.new b k ≡ (k == join && names (seen_group group.now) b || has_bit self.old b k)) }
         ensures closed { OnOk result ((k : ℕ) → is_shut self.new k ≡ is_shut self.old k) }
     {
         self.add_written(group.writes.as_slice(), join)?;
@@ -218,7 +226,8 @@ impl BitSets {
 
     /// The joins from `64 * w` on that name a bit of some writes.
     fn written_word(&self, writes: &[WriteBit], w: usize) -> u64
-        ensures { (j : ℕ) → j < 64 → (bit_at result j == 1) ≡ list_any (λ a. has_bit self.now a.bit (64 * w + j)) writes.now }
+        ensures { (j : ℕ) → j < 64
+            → (bit_at result j == 1) ≡ list_any (λ a. has_bit self.now a.bit (64 * w + j)) writes.now }
     {
         let mut word = 0;
         for write in writes {
@@ -229,7 +238,8 @@ impl BitSets {
 
     /// The joins from `64 * w` on that name a bit of some reads.
     fn read_word(&self, reads: &[ReadBit], w: usize) -> u64
-        ensures { (j : ℕ) → j < 64 → (bit_at result j == 1) ≡ list_any (λ a. has_bit self.now a.bit (64 * w + j)) reads.now }
+        ensures { (j : ℕ) → j < 64
+            → (bit_at result j == 1) ≡ list_any (λ a. has_bit self.now a.bit (64 * w + j)) reads.now }
     {
         let mut word = 0;
         for read in reads {
@@ -247,7 +257,8 @@ impl BitSets {
 
     /// The joins from `64 * w` on that name a bit that a round names.
     fn named_word(&self, group: &Group, w: usize) -> u64
-        ensures { (j : ℕ) → j < 64 → (bit_at result j == 1) ≡ names_one self.now (seen_group group.now) (64 * w + j) }
+        ensures { (j : ℕ) → j < 64
+            → (bit_at result j == 1) ≡ names_one self.now (seen_group group.now) (64 * w + j) }
     {
         let written = self.written_word(group.writes.as_slice(), w);
         let read = self.read_word(group.reads.as_slice(), w);
@@ -256,7 +267,8 @@ impl BitSets {
 
     /// The joins from `64 * w` on that nothing joins, or that name a bit that a round names. Takes no memory.
     pub fn word(&self, group: &Group, w: usize) -> u64
-        ensures { (j : ℕ) → j < 64 → (bit_at result j == 1) ≡ (is_shut self.now (64 * w + j) || names_one self.now (seen_group group.now) (64 * w + j)) }
+        ensures { (j : ℕ) → j < 64 → (bit_at result j == 1)
+            ≡ (is_shut self.now (64 * w + j) || names_one self.now (seen_group group.now) (64 * w + j)) }
     {
         let closed = self.closed_word(w);
         let named = self.named_word(group, w);

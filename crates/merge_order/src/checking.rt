@@ -41,8 +41,10 @@ pub fn check(
     requires procs { AreDistinct (full_names (map seen_proc procs.now)) }
     requires few_procs { length procs.now < 2 ^ 32 }
     requires net { IsNet net.now }
-    ensures passes { IfOk result (λ u. (bit_steps (map seen_proc procs.now) net.now tree.now name.now).fault ≡ None) }
-    ensures refused { IfErr result (EndsIn (bit_steps (map seen_proc procs.now) net.now tree.now name.now).fault) }
+    ensures passes { IfOk result
+        (λ u. (bit_steps (map seen_proc procs.now) net.now tree.now name.now).fault ≡ None) }
+    ensures refused { IfErr result
+        (EndsIn (bit_steps (map seen_proc procs.now) net.now tree.now name.now).fault) }
 {
     let mut steps = BitSteps::new(alloc, procs, net, tree, name)?;
     let passed = pass(&mut steps);

@@ -19,10 +19,11 @@ use pdl_targets::TargetFault;
 use std::alloc::Global;
 use std::marker::Model;
 
-/// Takes in the steps of a procedure and gives its bit steps (IEEE 1687-2014, PDL level 0). Those of an iMerge are ready at
-/// its end, in the order of its turns; all others at once.
+/// Takes in the steps of a procedure and gives its bit steps (IEEE 1687-2014, PDL level 0). Those of an
+/// iMerge are ready at its end, in the order of its turns; all others at once.
 ///
-/// Contracts see the network, its nested form, the state that the steps so far lead to, and the bit steps that are ready.
+/// Contracts see the network, its nested form, the state that the steps so far lead to, and the bit steps
+/// that are ready.
 #[derive(Drop)]
 pub struct Feeder<'a> {
     feed: Feed<'a>,
@@ -53,19 +54,23 @@ impl<'a> Feeder<'a> {
         }
     }
 
-    /// Takes in a step. Its bit step, if it has one, is ready at once, or at the end of the iMerge around it. After a refusal,
-    /// also for want of memory, all is as it was. The iReads that were taken in, with this step, are fewer than 2^32. The
-    /// limits of rounds and run cycles count the steps as they are taken in, before their order is changed.
+    /// Takes in a step. Its bit step, if it has one, is ready at once, or at the end of the iMerge around it.
+    /// After a refusal, also for want of memory, all is as it was. The iReads that were taken in, with this
+    /// step, are fewer than 2^32. The limits of rounds and run cycles count the steps as they are taken in,
+    /// before their order is changed.
     ///
     /// # Errors
     ///
-    /// The first of these: [`FeedFault::MergeInside`] exactly at an `iMerge -begin` within an iMerge; [`FeedFault::MergeReset`]
-    /// exactly at an iReset within one; [`FeedFault::Target`] with `Unapplied` exactly where an iWrite or an iRead before
-    /// of an iMerge, or in a branch of one, has no iApply after it there; then those of `Binder::feed`.
+    /// The first of these: [`FeedFault::MergeInside`] exactly at an `iMerge -begin` within an iMerge;
+    /// [`FeedFault::MergeReset`] exactly at an iReset within one; [`FeedFault::Target`] with `Unapplied`
+    /// exactly where an iWrite or an iRead before of an iMerge, or in a branch of one, has no iApply after it
+    /// there; then those of `Binder::feed`.
     pub fn feed(&mut self, step: &Step) -> Result<(), FeedFault>
         requires { self.old.state.queue.asked + 1 < 2 ^ 32 }
-        ensures given { OnOk result (following self.old.ready (feeding.feed self.old.net (places_in self.old.form) self.old.state (seen_step step.now)) ≡ feeding.Is self.new.state self.new.ready) }
-        ensures refused { IfErr result (Refuses (feeding.feed self.old.net (places_in self.old.form) self.old.state (seen_step step.now))) }
+        ensures given { OnOk result (following self.old.ready (feeding.feed self.old.net (places_in
+            self.old.form) self.old.state (seen_step step.now)) ≡ feeding.Is self.new.state self.new.ready) }
+        ensures refused { IfErr result (Refuses
+            (feeding.feed self.old.net (places_in self.old.form) self.old.state (seen_step step.now))) }
         ensures stays { OnErr result (self.new ≡ self.old) }
         ensures net { self.new.net ≡ self.old.net }
         ensures form { self.new.form ≡ self.old.form }
@@ -75,7 +80,8 @@ impl<'a> Feeder<'a> {
 
     /// Takes out the first bit step that is ready, or answers `None` exactly where none is. Takes no memory.
     pub fn take(&mut self) -> Option<BitStep>
-        ensures given { MatchOption result (self.old.ready ≡ []) (λ s. self.old.ready ≡ seen_bits s ∷ self.new.ready) }
+        ensures given { MatchOption result (self.old.ready ≡ [])
+            (λ s. self.old.ready ≡ seen_bits s ∷ self.new.ready) }
         ensures end { IsNone result → self.new.ready ≡ [] }
         ensures others { self.new ≡ record self.old { ready = self.new.ready } }
     {
@@ -86,7 +92,8 @@ impl<'a> Feeder<'a> {
     ///
     /// # Errors
     ///
-    /// [`TargetFault::Unapplied`] exactly where an iWrite or an iRead came after the last iApply, with the place of the first.
+    /// [`TargetFault::Unapplied`] exactly where an iWrite or an iRead came after the last iApply, with the
+    /// place of the first.
     pub fn finish(&self) -> Result<(), TargetFault>
         ensures { Finishes (finish self.now.state.queue) result }
     {

@@ -1,5 +1,6 @@
 // What was taken in, and what is ready.
-ghost use Rattle.std.specs.Prelude.{◌≡◌, ◌<◌, ◌+◌, ◌^◌, [], ◌∷◌, IsNone, Some, None, MatchOption, OnOk, OnErr, IfErr};
+ghost use Rattle.std.specs.Prelude.{◌≡◌, ◌<◌, ◌+◌, ◌^◌, [], ◌∷◌, IsNone, Some, None, MatchOption, OnOk};
+ghost use Rattle.std.specs.Prelude.{OnErr, IfErr};
 ghost use Rattle.net_graph.specs.Nets.{IsNet};
 ghost use Rattle.net_graph.specs.SeenSteps.{seen_step as seen_bits};
 ghost use Rattle.pdl_expand.specs.Values.{seen_step};
@@ -58,8 +59,11 @@ impl Begun {
     /// Binds a step, whose bit step waits for the end of the merge.
     fn bind(&mut self, binder: &mut Binder, step: &Step) -> Result<(), FeedFault>
         requires { binder.old.queue.asked + 1 < 2 ^ 32 }
-        ensures given { OnOk result (feeding.answered (Some (seen_begun self.old)) (bound binder.old.net (places_in binder.old.form) binder.old.queue (seen_step step.now)) ≡ feeding.Is (record { queue = binder.new.queue; merging = Some (seen_begun self.new) }) []) }
-        ensures refused { IfErr result (Refuses (feeding.answered (Some (seen_begun self.old)) (bound binder.old.net (places_in binder.old.form) binder.old.queue (seen_step step.now)))) }
+        ensures given { OnOk result (feeding.answered (Some (seen_begun self.old))
+            (bound binder.old.net (places_in binder.old.form) binder.old.queue (seen_step step.now))
+            ≡ feeding.Is (record { queue = binder.new.queue; merging = Some (seen_begun self.new) }) []) }
+        ensures refused { IfErr result (Refuses (feeding.answered (Some (seen_begun self.old))
+            (bound binder.old.net (places_in binder.old.form) binder.old.queue (seen_step step.now)))) }
         ensures queue { OnErr result (binder.new.queue ≡ binder.old.queue) }
         ensures stays { OnErr result (seen_begun self.new ≡ seen_begun self.old) }
         ensures net { binder.new.net ≡ binder.old.net }
@@ -76,8 +80,11 @@ impl Begun {
 /// Binds a step, whose bit step is ready at once.
 fn bind(binder: &mut Binder, ready: &mut VecDeque<BitStep>, step: &Step) -> Result<(), FeedFault>
     requires { binder.old.queue.asked + 1 < 2 ^ 32 }
-    ensures given { OnOk result (following (seen_steps ready.old.items) (feeding.answered None (bound binder.old.net (places_in binder.old.form) binder.old.queue (seen_step step.now))) ≡ feeding.Is (record { queue = binder.new.queue; merging = None }) (seen_steps ready.new.items)) }
-    ensures refused { IfErr result (Refuses (feeding.answered None (bound binder.old.net (places_in binder.old.form) binder.old.queue (seen_step step.now)))) }
+    ensures given { OnOk result (following (seen_steps ready.old.items) (feeding.answered None
+        (bound binder.old.net (places_in binder.old.form) binder.old.queue (seen_step step.now)))
+        ≡ feeding.Is (record { queue = binder.new.queue; merging = None }) (seen_steps ready.new.items)) }
+    ensures refused { IfErr result (Refuses (feeding.answered None
+        (bound binder.old.net (places_in binder.old.form) binder.old.queue (seen_step step.now)))) }
     ensures queue { OnErr result (binder.new.queue ≡ binder.old.queue) }
     ensures stays { OnErr result (seen_steps ready.new.items ≡ seen_steps ready.old.items) }
     ensures net { binder.new.net ≡ binder.old.net }
@@ -98,7 +105,8 @@ pub(crate) struct Feed<'a> {
     pub binder: Binder<'a>,
     /// The merge that is begun, if one is.
     pub merging: Option<Begun>,
-    /// The tables by which the iApplys of a turn are joined. They are kept from one merge to the next, so that a merge costs what it names.
+    /// The tables by which the iApplys of a turn are joined. They are kept from one merge to the next, so
+    /// that a merge costs what it names.
     pub named: Named,
     /// The bit steps that are ready, in order.
     pub ready: VecDeque<BitStep>,
@@ -108,7 +116,8 @@ impl<'a> Feed<'a> {
     /// Nothing yet. Takes no memory.
     pub fn new(alloc: Global, net: &'a Net, tree: &'a Tree) -> Self
         requires { IsNet net.now }
-        ensures begin { seen_feed result ≡ record { net = net.now; form = tree.now; state = feeding.begin; ready = [] } }
+        ensures begin { seen_feed result
+            ≡ record { net = net.now; form = tree.now; state = feeding.begin; ready = [] } }
         ensures tree { HasItsTree result }
     {
         Feed {
@@ -124,7 +133,8 @@ impl<'a> Feed<'a> {
     /// Begins a merge. Takes no memory.
     fn begin_merge(&mut self, at: Place) -> Result<(), FeedFault>
         requires tree { HasItsTree self.old }
-        ensures answer { Feeds (feeding.begin_merge at (seen_feed self.old).state) (seen_feed self.old) (seen_feed self.new) result }
+        ensures answer { Feeds (feeding.begin_merge at (seen_feed self.old).state)
+            (seen_feed self.old) (seen_feed self.new) result }
         ensures stays { OnErr result (seen_feed self.new ≡ seen_feed self.old) }
         ensures net { self.new.binder.net ≡ self.old.binder.net }
         ensures form { self.new.binder.form ≡ self.old.binder.form }
@@ -143,7 +153,8 @@ impl<'a> Feed<'a> {
     /// Ends a branch of a merge.
     fn end_branch(&mut self) -> Result<(), FeedFault>
         requires tree { HasItsTree self.old }
-        ensures answer { Feeds (feeding.end_branch (seen_feed self.old).state) (seen_feed self.old) (seen_feed self.new) result }
+        ensures answer { Feeds (feeding.end_branch (seen_feed self.old).state)
+            (seen_feed self.old) (seen_feed self.new) result }
         ensures stays { OnErr result (seen_feed self.new ≡ seen_feed self.old) }
         ensures net { self.new.binder.net ≡ self.old.binder.net }
         ensures form { self.new.binder.form ≡ self.old.binder.form }
@@ -162,7 +173,9 @@ impl<'a> Feed<'a> {
     /// Ends a merge, whose bit steps are ready then.
     fn end_merge(&mut self) -> Result<(), OutOfMemory>
         requires tree { HasItsTree self.old }
-        ensures ready { OnOk result (following (seen_feed self.old).ready (feeding.end_merge (places_in self.old.binder.form) (seen_feed self.old).state) ≡ feeding.Is (seen_feed self.new).state (seen_feed self.new).ready) }
+        ensures ready { OnOk result (following (seen_feed self.old).ready
+            (feeding.end_merge (places_in self.old.binder.form) (seen_feed self.old).state)
+            ≡ feeding.Is (seen_feed self.new).state (seen_feed self.new).ready) }
         ensures stays { OnErr result (seen_feed self.new ≡ seen_feed self.old) }
         ensures net { self.new.binder.net ≡ self.old.binder.net }
         ensures form { self.new.binder.form ≡ self.old.binder.form }
@@ -186,7 +199,8 @@ impl<'a> Feed<'a> {
     fn reset(&mut self, step: &Step) -> Result<(), FeedFault>
         requires tree { HasItsTree self.old }
         requires few { self.old.binder.queue.asked + 1 < 2 ^ 32 }
-        ensures answer { Feeds (feeding.reset self.old.binder.net (places_in self.old.binder.form) (seen_feed self.old).state (seen_step step.now)) (seen_feed self.old) (seen_feed self.new) result }
+        ensures answer { Feeds (feeding.reset self.old.binder.net (places_in self.old.binder.form) (seen_feed
+            self.old).state (seen_step step.now)) (seen_feed self.old) (seen_feed self.new) result }
         ensures stays { OnErr result (seen_feed self.new ≡ seen_feed self.old) }
         ensures net { self.new.binder.net ≡ self.old.binder.net }
         ensures form { self.new.binder.form ≡ self.old.binder.form }
@@ -202,7 +216,9 @@ impl<'a> Feed<'a> {
     fn bind(&mut self, step: &Step) -> Result<(), FeedFault>
         requires tree { HasItsTree self.old }
         requires few { self.old.binder.queue.asked + 1 < 2 ^ 32 }
-        ensures answer { Feeds (feeding.bind_step self.old.binder.net (places_in self.old.binder.form) (seen_feed self.old).state (seen_step step.now)) (seen_feed self.old) (seen_feed self.new) result }
+        ensures answer { Feeds (feeding.bind_step self.old.binder.net (places_in self.old.binder.form)
+            (seen_feed self.old).state (seen_step step.now))
+            (seen_feed self.old) (seen_feed self.new) result }
         ensures stays { OnErr result (seen_feed self.new ≡ seen_feed self.old) }
         ensures net { self.new.binder.net ≡ self.old.binder.net }
         ensures form { self.new.binder.form ≡ self.old.binder.form }
@@ -218,7 +234,8 @@ impl<'a> Feed<'a> {
     pub fn feed(&mut self, step: &Step) -> Result<(), FeedFault>
         requires tree { HasItsTree self.old }
         requires few { self.old.binder.queue.asked + 1 < 2 ^ 32 }
-        ensures answer { Feeds (feeding.feed self.old.binder.net (places_in self.old.binder.form) (seen_feed self.old).state (seen_step step.now)) (seen_feed self.old) (seen_feed self.new) result }
+        ensures answer { Feeds (feeding.feed self.old.binder.net (places_in self.old.binder.form) (seen_feed
+            self.old).state (seen_step step.now)) (seen_feed self.old) (seen_feed self.new) result }
         ensures stays { OnErr result (seen_feed self.new ≡ seen_feed self.old) }
         ensures net { self.new.binder.net ≡ self.old.binder.net }
         ensures form { self.new.binder.form ≡ self.old.binder.form }
@@ -236,8 +253,10 @@ impl<'a> Feed<'a> {
     /// Takes out the first bit step that is ready.
     pub fn take(&mut self) -> Option<BitStep>
         requires { HasItsTree self.old }
-        ensures given { MatchOption result (seen_steps self.old.ready.items ≡ []) (λ s. seen_steps self.old.ready.items ≡ seen_bits s ∷ seen_steps self.new.ready.items) }
-        ensures others { seen_feed self.new ≡ record (seen_feed self.old) { ready = (seen_feed self.new).ready } }
+        ensures given { MatchOption result (seen_steps self.old.ready.items ≡ [])
+            (λ s. seen_steps self.old.ready.items ≡ seen_bits s ∷ seen_steps self.new.ready.items) }
+        ensures others { seen_feed self.new
+            ≡ record (seen_feed self.old) { ready = (seen_feed self.new).ready } }
         ensures end { IsNone result → seen_steps self.new.ready.items ≡ [] }
         ensures tree { HasItsTree self.new }
     {

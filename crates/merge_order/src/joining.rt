@@ -25,7 +25,8 @@ fn count_of(joins: &[Vec<Group>]) -> Result<u32, OutOfMemory>
 
 /// Puts a round into the round of a join that has one.
 fn add_round(join: &mut [Group], round: &Group) -> Result<(), OutOfMemory>
-    ensures { is_closed (seen_groups join.old) ≡ false → OnOk result (seen_groups join.new ≡ with_round (seen_groups join.old) (seen_group round.now)) }
+    ensures { is_closed (seen_groups join.old) ≡ false
+        → OnOk result (seen_groups join.new ≡ with_round (seen_groups join.old) (seen_group round.now)) }
 {
     match join {
         [group] => add_group(group, round),
@@ -49,7 +50,9 @@ fn put_at(
     place: u32,
     round: &Group,
 ) -> Result<(), OutOfMemory>
-    ensures { place ≤ length joins.old.items → is_closed (join_at (seen_joins joins.old.items) place) ≡ false → OnOk result (seen_joins joins.new.items ≡ put_at place (seen_group round.now) (seen_joins joins.old.items)) }
+    ensures { place ≤ length joins.old.items
+        → is_closed (join_at (seen_joins joins.old.items) place) ≡ false → OnOk result
+        (seen_joins joins.new.items ≡ put_at place (seen_group round.now) (seen_joins joins.old.items)) }
 {
     let place = place as usize;
     if place < joins.len() {
@@ -72,7 +75,8 @@ fn put_round(
     round: &Group,
 ) -> Result<(), OutOfMemory>
     requires { Tells (places_in tree.now) named.old (seen_joins joins.old.items) }
-    ensures joins { OnOk result (seen_joins joins.new.items ≡ put_round (places_in tree.now) (seen_group round.now) (seen_joins joins.old.items)) }
+    ensures joins { OnOk result (seen_joins joins.new.items
+        ≡ put_round (places_in tree.now) (seen_group round.now) (seen_joins joins.old.items)) }
     ensures tells { OnOk result (Tells (places_in tree.now) named.new (seen_joins joins.new.items)) }
 {
     let around = rows_around(alloc, tree, round)?;
@@ -93,7 +97,8 @@ fn put_rounds(
 ) -> Result<(), OutOfMemory>
     requires tells { Tells (places_in _tree.now) named.old (seen_joins joins.old.items) }
     requires closed { is_closed (seen_groups rounds.now) ≡ true }
-    ensures joins { OnOk result (seen_joins joins.new.items ≡ seen_joins joins.old.items ++ seen_groups rounds.now ∷ []) }
+    ensures joins { OnOk result
+        (seen_joins joins.new.items ≡ seen_joins joins.old.items ++ seen_groups rounds.now ∷ []) }
     ensures tells { OnOk result (Tells (places_in _tree.now) named.new (seen_joins joins.new.items)) }
 {
     let count = count_of(joins)?;
@@ -111,7 +116,8 @@ fn put_in(
     rounds: &[Group],
 ) -> Result<(), OutOfMemory>
     requires { Tells (places_in tree.now) named.old (seen_joins joins.old.items) }
-    ensures joins { OnOk result (seen_joins joins.new.items ≡ put_in (places_in tree.now) (seen_joins joins.old.items) (seen_groups rounds.now)) }
+    ensures joins { OnOk result (seen_joins joins.new.items
+        ≡ put_in (places_in tree.now) (seen_joins joins.old.items) (seen_groups rounds.now)) }
     ensures tells { OnOk result (Tells (places_in tree.now) named.new (seen_joins joins.new.items)) }
 {
     match rounds {
@@ -127,7 +133,8 @@ pub(crate) fn all_joins(
     named: &mut Named,
     applies: &[&[Group]],
 ) -> Result<Vec<Vec<Group>>, OutOfMemory>
-    ensures { IfOk result (λ js. seen_joins js.items ≡ merge.all_joins (places_in tree.now) (seen_applies applies.now)) }
+    ensures { IfOk result (λ js. seen_joins js.items
+        ≡ merge.all_joins (places_in tree.now) (seen_applies applies.now)) }
 {
     named.clear();
     let mut joins = Vec::new(alloc);

@@ -1,5 +1,10 @@
 // What follows for merges.
-ghost use Rattle.merge_order.specs.Laws.{FedCyclesAreFew, FedRoundsAreFew, FedRunsAreShort, FedStepsAreFew, FedStepsAreOfTheNetwork, FedStepsHavePaths, MergedCyclesAreFew, MergedRoundsAreFew, MergedRunsAreShort, MergedStepsAreFew, MergedStepsAreOfTheNetwork, MergedStepsHavePaths, MergesHaveEachRead, MergesHaveEachWrite, NoBranchDoesNothing, OneBranchStays, OthersAreBound};
+ghost use Rattle.merge_order.specs.Laws.{FedCyclesAreFew, FedRoundsAreFew, FedRunsAreShort, FedStepsAreFew};
+ghost use Rattle.merge_order.specs.Laws.{FedStepsAreOfTheNetwork, FedStepsHavePaths, MergedCyclesAreFew};
+ghost use Rattle.merge_order.specs.Laws.{MergedRoundsAreFew, MergedRunsAreShort, MergedStepsAreFew};
+ghost use Rattle.merge_order.specs.Laws.{MergedStepsAreOfTheNetwork, MergedStepsHavePaths};
+ghost use Rattle.merge_order.specs.Laws.{MergesHaveEachRead, MergesHaveEachWrite, NoBranchDoesNothing};
+ghost use Rattle.merge_order.specs.Laws.{OneBranchStays, OthersAreBound};
 
 /// Merges of few branches (IEEE 1687-2014, PDL level 0: iMerge):
 ///
@@ -13,7 +18,8 @@ pub fn merges_of_one_branch()
 /// The bit steps of a merge in their network, where those of its branches are so:
 ///
 /// - `steps`: each writes and reads data bits of the network, each bit once in a round.
-/// - `paths`: each round of an iApply names something, and its registers can be on one path (IEEE 1687-2014, ScanMux).
+/// - `paths`: each round of an iApply names something, and its registers can be on one path (IEEE 1687-2014,
+///   ScanMux).
 pub fn merges_are_of_the_network()
     ensures steps { MergedStepsAreOfTheNetwork }
     ensures paths { MergedStepsHavePaths }
@@ -41,13 +47,15 @@ pub fn merges_are_few()
 /// The bit steps that become ready of the steps of a procedure, in their network:
 ///
 /// - `steps`: each writes and reads data bits of a well formed network, each bit once in a round.
-/// - `paths`: each round of an iApply names something, and its registers can be on one path (IEEE 1687-2014, ScanMux).
+/// - `paths`: each round of an iApply names something, and its registers can be on one path (IEEE 1687-2014,
+///   ScanMux).
 pub fn fed_steps_are_of_the_network()
     ensures steps { FedStepsAreOfTheNetwork }
     ensures paths { FedStepsHavePaths }
 {}
 
-/// What becomes ready of the steps of a procedure without merges is what binding gives, so what holds of these holds of them.
+/// What becomes ready of the steps of a procedure without merges is what binding gives, so what holds of
+/// these holds of them.
 pub fn steps_without_merges_are_bound()
     ensures { OthersAreBound }
 {}

@@ -1,5 +1,6 @@
 // What the joins of a turn name, in tables.
-ghost use Rattle.std.specs.Prelude.{◌≡◌, ◌≤◌, ◌<◌, ℕ, ◌+◌, ◌*◌, ◌==◌, List, [], ◌∷◌, ◌++◌, length, true, false, OnOk};
+ghost use Rattle.std.specs.Prelude.{◌≡◌, ◌≤◌, ◌<◌, ℕ, ◌+◌, ◌*◌, ◌==◌, List, [], ◌∷◌, ◌++◌, length, true};
+ghost use Rattle.std.specs.Prelude.{false, OnOk};
 ghost use Rattle.std.specs.Int.{bit_at};
 ghost use Rattle.std.specs.Option.{IfNone, IfSome};
 ghost use Rattle.net_graph.specs.SeenSteps.{SeenGroup, seen_group};
@@ -50,9 +51,13 @@ impl Named {
         self.rows.clear();
     }
 
-    /// A round goes into a join, or is a join after the others. After want of memory the tables want to be cleared.
+    /// A round goes into a join, or is a join after the others. After want of memory the tables want to be
+    /// cleared.
     pub fn add(&mut self, group: &Group, around: &[Branch], join: u32) -> Result<(), OutOfMemory>
-        ensures { (places : Places) (joins : List (List SeenGroup)) → SameRows around.now (rows_around places (seen_group group.now)) → Tells places self.old joins → join ≤ length joins → is_closed (join_at joins join) ≡ false → OnOk result (Tells places self.new (put_at join (seen_group group.now) joins)) }
+        ensures { (places : Places) (joins : List (List SeenGroup))
+            → SameRows around.now (rows_around places (seen_group group.now)) → Tells places self.old joins
+            → join ≤ length joins → is_closed (join_at joins join) ≡ false
+            → OnOk result (Tells places self.new (put_at join (seen_group group.now) joins)) }
     {
         self.bits.add_named(group, join)?;
         self.rows.add_all(around, join)?;
@@ -61,7 +66,9 @@ impl Named {
 
     /// One more join, which nothing joins.
     pub fn close(&mut self, join: u32) -> Result<(), OutOfMemory>
-        ensures { (places : Places) (joins : List (List SeenGroup)) (rounds : List SeenGroup) → Tells places self.old joins → join ≡ length joins → is_closed rounds ≡ true → OnOk result (Tells places self.new (joins ++ rounds ∷ [])) }
+        ensures { (places : Places) (joins : List (List SeenGroup)) (rounds : List SeenGroup)
+            → Tells places self.old joins → join ≡ length joins → is_closed rounds ≡ true
+            → OnOk result (Tells places self.new (joins ++ rounds ∷ [])) }
     {
         self.bits.close(join)?;
         Ok(())
@@ -69,7 +76,8 @@ impl Named {
 
     /// The joins from `64 * w` on that refuse a round, the first of them the lowest bit.
     fn word(&self, group: &Group, around: &[Branch], w: u32) -> u64
-        ensures { (j : ℕ) → j < 64 → (bit_at result j == 1) ≡ refuses self.now (seen_group group.now) around.now (64 * w + j) }
+        ensures { (j : ℕ) → j < 64
+            → (bit_at result j == 1) ≡ refuses self.now (seen_group group.now) around.now (64 * w + j) }
     {
         let w = w as usize;
         let named = self.bits.word(group, w);
@@ -79,10 +87,13 @@ impl Named {
 
     /// The first of 64 joins from `64 * w` on that doesn't refuse a round, counted from there.
     fn first_in(&self, group: &Group, around: &[Branch], w: u32) -> Option<u32>
-        ensures none { IfNone result ((j : ℕ) → j < 64 → refuses self.now (seen_group group.now) around.now (64 * w + j) ≡ true) }
+        ensures none { IfNone result ((j : ℕ) → j < 64
+            → refuses self.now (seen_group group.now) around.now (64 * w + j) ≡ true) }
         ensures low { IfSome result (λ k. k < 64) }
-        ensures open { IfSome result (λ k. refuses self.now (seen_group group.now) around.now (64 * w + k) ≡ false) }
-        ensures before { IfSome result (λ k. (j : ℕ) → j < k → refuses self.now (seen_group group.now) around.now (64 * w + j) ≡ true) }
+        ensures open { IfSome result
+            (λ k. refuses self.now (seen_group group.now) around.now (64 * w + k) ≡ false) }
+        ensures before { IfSome result (λ k. (j : ℕ) → j < k
+            → refuses self.now (seen_group group.now) around.now (64 * w + j) ≡ true) }
     {
         first_open(self.word(group, around, w))
     }
@@ -104,8 +115,12 @@ impl Named {
     /// The first join that can take a round, or the number of joins. Takes no memory.
     pub fn first_join(&self, group: &Group, around: &[Branch], joins: u32) -> u32
         ensures at_most { result ≤ joins }
-        ensures before { (places : Places) (js : List (List SeenGroup)) → SameRows around.now (rows_around places (seen_group group.now)) → Tells places self.now js → (k : ℕ) → k < result → takes places (join_at js k) (seen_group group.now) ≡ false }
-        ensures at { (places : Places) (js : List (List SeenGroup)) → SameRows around.now (rows_around places (seen_group group.now)) → Tells places self.now js → result < joins → takes places (join_at js result) (seen_group group.now) ≡ true }
+        ensures before { (places : Places) (js : List (List SeenGroup))
+            → SameRows around.now (rows_around places (seen_group group.now)) → Tells places self.now js
+            → (k : ℕ) → k < result → takes places (join_at js k) (seen_group group.now) ≡ false }
+        ensures at { (places : Places) (js : List (List SeenGroup))
+            → SameRows around.now (rows_around places (seen_group group.now)) → Tells places self.now js
+            → result < joins → takes places (join_at js result) (seen_group group.now) ≡ true }
     {
         self.first_open(group, around, joins)
     }

@@ -13,7 +13,8 @@ use net_graph::BitStep;
 ///
 /// [`OutOfMemory`] where [`BitSteps::next`] refuses.
 pub fn next_step(steps: &mut BitSteps<'_>) -> Result<Option<BitStep>, OutOfMemory>
-    ensures given { IfOk result (λ o. MatchOption o (steps.old ≡ nothing_left) (λ s. steps.old ≡ given_first_bit (seen_step s) steps.new)) }
+    ensures given { IfOk result (λ o. MatchOption o (steps.old ≡ nothing_left)
+        (λ s. steps.old ≡ given_first_bit (seen_step s) steps.new)) }
     ensures end { IfOk result (λ o. o ≡ None → steps.new ≡ nothing_left) }
 {
     match steps.next() {

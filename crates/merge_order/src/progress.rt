@@ -1,5 +1,6 @@
 // How far a procedure has come.
-ghost use Rattle.std.specs.Prelude.{◌≡◌, ◌<◌, ◌≤◌, ◌+◌, ◌^◌, [], Some, None, MatchOption, IsNone, IfOk, IfErr, OnOk, OnErr, length, map};
+ghost use Rattle.std.specs.Prelude.{◌≡◌, ◌<◌, ◌≤◌, ◌+◌, ◌^◌, [], Some, None, MatchOption, IsNone, IfOk};
+ghost use Rattle.std.specs.Prelude.{IfErr, OnOk, OnErr, length, map};
 ghost use Rattle.ij_text.specs.Numbering.{AreDistinct};
 ghost use Rattle.net_graph.specs.Nets.{IsNet};
 ghost use Rattle.net_graph.specs.SeenSteps as bits;
@@ -9,7 +10,8 @@ ghost use Rattle.pdl_parser.specs.Grammar.{full_names};
 ghost use Rattle.pdl_parser.specs.Views.{seen_proc};
 ghost use Rattle.merge_order.specs.BitSteps.{bit_steps, given_first_bit, nothing_left};
 ghost use Rattle.merge_order.specs.Seen.{Refuses, of_feed};
-ghost use Rattle.merge_order.specs.SeenProgress.{StepsLeft, IsUnderWay, Moves, bits_after, left_of, with_pending};
+ghost use Rattle.merge_order.specs.SeenProgress.{StepsLeft, IsUnderWay, Moves, bits_after, left_of};
+ghost use Rattle.merge_order.specs.SeenProgress.{with_pending};
 
 use crate::fault::FeedFault;
 use crate::feeder::Feeder;
@@ -50,7 +52,8 @@ pub(crate) fn begun<'a>(
     requires few_procs { length procs.now < 2 ^ 32 }
     requires net { IsNet net.now }
     ensures under_way { IfOk result IsUnderWay }
-    ensures given { IfOk result (λ p. left_of p ≡ bit_steps (map seen_proc procs.now) net.now tree.now name.now) }
+    ensures given { IfOk result
+        (λ p. left_of p ≡ bit_steps (map seen_proc procs.now) net.now tree.now name.now) }
     ensures refused { IfErr result (Refuses (bit_steps (map seen_proc procs.now) net.now tree.now name.now)) }
 {
     let steps = Steps::new(alloc, procs, net, name)?;
@@ -63,7 +66,8 @@ pub(crate) fn begun<'a>(
 
 /// Takes out the next step that isn't taken in, or `None` at the end.
 fn take<'a>(steps: &mut Steps<'a>, pending: &mut Option<Step>) -> Result<Option<Step>, ExpandFault>
-    ensures taken { IfOk result (λ o. MatchOption o (with_pending pending.old steps.old ≡ no_step) (λ s. with_pending pending.old steps.old ≡ given_first (seen_step s) steps.new)) }
+    ensures taken { IfOk result (λ o. MatchOption o (with_pending pending.old steps.old ≡ no_step)
+        (λ s. with_pending pending.old steps.old ≡ given_first (seen_step s) steps.new)) }
     ensures end { IfOk result (λ o. IsNone o → steps.new ≡ no_step) }
     ensures none { OnOk result (pending.new ≡ None) }
     ensures refused { IfErr result (RefusesLeft (with_pending pending.old steps.old)) }
@@ -75,7 +79,8 @@ fn take<'a>(steps: &mut Steps<'a>, pending: &mut Option<Step>) -> Result<Option<
     }
 }
 
-/// Hands a step that was taken out to the feeder, where no bit step is ready. Where the step is refused it is pending again.
+/// Hands a step that was taken out to the feeder, where no bit step is ready. Where the step is refused it is
+/// pending again.
 fn feed<'a>(
     feeder: &mut Feeder<'a>,
     pending: &mut Option<Step>,
@@ -83,10 +88,12 @@ fn feed<'a>(
 ) -> Result<(), FeedFault>
     requires few { feeder.old.state.queue.asked + 1 < 2 ^ 32 }
     requires none_ready { feeder.old.ready ≡ [] }
-    ensures given { OnOk result ((more : StepsLeft) → bits_after feeder.old (given_first (seen_step step) more) ≡ bits_after feeder.new more) }
+    ensures given { OnOk result ((more : StepsLeft)
+        → bits_after feeder.old (given_first (seen_step step) more) ≡ bits_after feeder.new more) }
     ensures asked { OnOk result (feeder.new.state.queue.asked ≤ feeder.old.state.queue.asked + 1) }
     ensures none { OnOk result (pending.new ≡ pending.old) }
-    ensures refused { IfErr result (λ e. (more : StepsLeft) → Refuses (bits_after feeder.old (given_first (seen_step step) more)) (of_feed e)) }
+    ensures refused { IfErr result (λ e. (more : StepsLeft)
+        → Refuses (bits_after feeder.old (given_first (seen_step step) more)) (of_feed e)) }
     ensures kept { OnErr result (pending.new ≡ Some step) }
     ensures stays { OnErr result (feeder.new ≡ feeder.old) }
 {
@@ -128,7 +135,8 @@ impl<'a> Progress<'a> {
     pub fn next(&mut self) -> Result<Option<BitStep>, StepFault>
         requires { IsUnderWay self.old }
         ensures under_way { IsUnderWay self.new }
-        ensures given { IfOk result (λ o. MatchOption o (left_of self.old ≡ nothing_left) (λ s. left_of self.old ≡ given_first_bit (bits.seen_step s) (left_of self.new))) }
+        ensures given { IfOk result (λ o. MatchOption o (left_of self.old ≡ nothing_left)
+            (λ s. left_of self.old ≡ given_first_bit (bits.seen_step s) (left_of self.new))) }
         ensures end { IfOk result (λ o. IsNone o → left_of self.new ≡ nothing_left) }
         ensures refused { IfErr result (Refuses (left_of self.old)) }
         ensures stays { OnErr result (left_of self.new ≡ left_of self.old) }

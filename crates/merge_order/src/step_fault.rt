@@ -10,8 +10,8 @@ use pdl_targets::TargetFault;
 /// Why a procedure has no further bit step (IEEE 1687-2014, PDL level 0).
 #[derive(Drop)]
 pub enum StepFault {
-    /// There is no memory. No other variant stands for it: [`ExpandFault::OutOfMemory`] and [`FeedFault::OutOfMemory`] are
-    /// never handed on.
+    /// There is no memory. No other variant stands for it: [`ExpandFault::OutOfMemory`] and
+    /// [`FeedFault::OutOfMemory`] are never handed on.
     OutOfMemory,
     /// The procedure can't go on.
     Expand(ExpandFault),

@@ -1,9 +1,12 @@
 // What follows for the bit steps of a procedure.
-ghost use Rattle.merge_order.specs.StepLaws.{StepsAreFed, StepsAreBound, BitStepsAreOfTheNetwork, BitStepsHavePaths, BitStepsAreFew, BitRoundsAreFew, BitCyclesAreFew, BitRunsAreShort};
+ghost use Rattle.merge_order.specs.StepLaws.{StepsAreFed, StepsAreBound, BitStepsAreOfTheNetwork};
+ghost use Rattle.merge_order.specs.StepLaws.{BitStepsHavePaths, BitStepsAreFew, BitRoundsAreFew};
+ghost use Rattle.merge_order.specs.StepLaws.{BitCyclesAreFew, BitRunsAreShort};
 
 /// The bit steps of a procedure (IEEE 1687-2014, PDL level 0):
 ///
-/// - `fed`: they are what becomes ready of the steps of its expansion, those of an iMerge in the order of its turns.
+/// - `fed`: they are what becomes ready of the steps of its expansion, those of an iMerge in the order of its
+///   turns.
 /// - `alone`: without an iMerge they are what binding makes of these steps.
 pub fn bit_steps_are_bound()
     ensures fed { StepsAreFed }
@@ -13,7 +16,8 @@ pub fn bit_steps_are_bound()
 /// Bit steps in their network:
 ///
 /// - `steps`: each one writes and reads data bits of a well formed network, each bit once in a round.
-/// - `paths`: each round of an iApply names something, and its registers can be on one path (IEEE 1687-2014, ScanMux).
+/// - `paths`: each round of an iApply names something, and its registers can be on one path (IEEE 1687-2014,
+///   ScanMux).
 pub fn bit_steps_are_of_the_network()
     ensures steps { BitStepsAreOfTheNetwork }
     ensures paths { BitStepsHavePaths }

@@ -18,8 +18,9 @@ use std::marker::Model;
 
 /// The bit steps of a procedure of the top module, one after the other (IEEE 1687-2014, PDL level 0).
 ///
-/// Contracts see what is left: the `steps` up to the end of the procedure or up to the `fault` in which they end. The fault
-/// of a step stands before that of a later command, and a missing iApply comes only at the end of the procedure.
+/// Contracts see what is left: the `steps` up to the end of the procedure or up to the `fault` in which they
+/// end. The fault of a step stands before that of a later command, and a missing iApply comes only at the end
+/// of the procedure.
 pub struct BitSteps<'a> {
     progress: Progress<'a>,
 }
@@ -35,7 +36,8 @@ impl<'a> Model for BitSteps<'a> {
     ghost invariant = { λ b. IsUnderWay b.progress };
 }
 
-/// Written out, so that a crate that drops bit steps calls this, and doesn't prove the drop of each part of them again.
+/// Written out, so that a crate that drops bit steps calls this, and doesn't prove the drop of each part of
+/// them again.
 impl Drop for BitSteps<'_> {
     fn drop(self) {
         let BitSteps { progress: _ } = self;
@@ -43,13 +45,13 @@ impl Drop for BitSteps<'_> {
 }
 
 impl<'a> BitSteps<'a> {
-    /// The bit steps of a procedure of the top module, which is that of the net's first cell. The net is well formed, the
-    /// tree is its nested form, and no two procedures of one module have one name.
+    /// The bit steps of a procedure of the top module, which is that of the net's first cell. The net is well
+    /// formed, the tree is its nested form, and no two procedures of one module have one name.
     ///
     /// # Errors
     ///
-    /// The fault of a procedure that can't begin: [`StepFault::Expand`] with `NoProc` where it isn't there, and with `ArgCount`
-    /// where it has arguments, at line 0.
+    /// The fault of a procedure that can't begin: [`StepFault::Expand`] with `NoProc` where it isn't there,
+    /// and with `ArgCount` where it has arguments, at line 0.
     pub fn new(
         alloc: Global,
         procs: &'a [Proc],
@@ -61,24 +63,27 @@ impl<'a> BitSteps<'a> {
         requires few_procs { length procs.now < 2 ^ 32 }
         requires net { IsNet net.now }
         ensures given { IfOk result (λ b. b ≡ bit_steps (map seen_proc procs.now) net.now tree.now name.now) }
-        ensures refused { IfErr result (Refuses (bit_steps (map seen_proc procs.now) net.now tree.now name.now)) }
+        ensures refused { IfErr result
+            (Refuses (bit_steps (map seen_proc procs.now) net.now tree.now name.now)) }
     {
         Ok(BitSteps {
             progress: begun(alloc, procs, net, tree, name)?,
         })
     }
 
-    /// The next bit step, or `None` exactly at the end of the procedure. A fault is answered again by each later call. After
-    /// want of memory the same bit steps are left.
+    /// The next bit step, or `None` exactly at the end of the procedure. A fault is answered again by each
+    /// later call. After want of memory the same bit steps are left.
     ///
     /// # Errors
     ///
-    /// At each command, in the order in which they are executed: [`StepFault::Expand`] where the procedure can't go on (see
-    /// `Steps::next`), else [`StepFault::Feed`] where the step can't be taken in (see `Feeder::feed`). At the end
-    /// [`StepFault::Feed`] with the `Unapplied` of an iWrite or an iRead without an iApply after it. The bit steps of an
-    /// iMerge come at its end, in the order of its turns, so before a fault inside of it none of them is given.
+    /// At each command, in the order in which they are executed: [`StepFault::Expand`] where the procedure
+    /// can't go on (see `Steps::next`), else [`StepFault::Feed`] where the step can't be taken in (see
+    /// `Feeder::feed`). At the end [`StepFault::Feed`] with the `Unapplied` of an iWrite or an iRead without
+    /// an iApply after it. The bit steps of an iMerge come at its end, in the order of its turns, so before a
+    /// fault inside of it none of them is given.
     pub fn next(&mut self) -> Result<Option<BitStep>, StepFault>
-        ensures given { IfOk result (λ o. MatchOption o (self.old ≡ nothing_left) (λ s. self.old ≡ given_first_bit (seen_step s) self.new)) }
+        ensures given { IfOk result (λ o. MatchOption o (self.old ≡ nothing_left)
+            (λ s. self.old ≡ given_first_bit (seen_step s) self.new)) }
         ensures end { IfOk result (λ o. IsNone o → self.new ≡ nothing_left) }
         ensures refused { IfErr result (Refuses self.old) }
         ensures stays { OnErr result (self.new ≡ self.old) }

@@ -17,7 +17,8 @@ use std::cmp::max;
 
 /// Puts a bit step after iApplys, each by its rounds, if it is one.
 fn add_apply<'a>(applies: &mut Vec<&'a [Group]>, step: &'a BitStep) -> Result<(), OutOfMemory>
-    ensures { OnOk result (seen_applies applies.new.items ≡ seen_applies applies.old.items ++ merge.applies_in (seen_step step.now ∷ [])) }
+    ensures { OnOk result (seen_applies applies.new.items
+        ≡ seen_applies applies.old.items ++ merge.applies_in (seen_step step.now ∷ [])) }
 {
     if let BitStep::Apply(rounds) = step {
         applies.push(rounds.as_slice())?;
@@ -59,7 +60,8 @@ fn longest_run(heads: &[&BitStep]) -> u32
 
 /// Puts joins after bit steps, each as one iApply.
 fn put_joins(joins: Vec<Vec<Group>>, steps: &mut List<BitStep>) -> Result<(), OutOfMemory>
-    ensures { OnOk result (seen_steps steps.new.items ≡ seen_steps steps.old.items ++ map Apply (seen_joins joins.items)) }
+    ensures { OnOk result (seen_steps steps.new.items
+        ≡ seen_steps steps.old.items ++ map Apply (seen_joins joins.items)) }
 {
     for join in joins {
         steps.push(BitStep::Apply(List::from(join)))?;
@@ -69,7 +71,8 @@ fn put_joins(joins: Vec<Vec<Group>>, steps: &mut List<BitStep>) -> Result<(), Ou
 
 /// Puts a run after bit steps, unless it has no cycle.
 fn put_run(cycles: u32, steps: &mut List<BitStep>) -> Result<(), OutOfMemory>
-    ensures { OnOk result (seen_steps steps.new.items ≡ seen_steps steps.old.items ++ merge.if_any (run_of cycles)) }
+    ensures { OnOk result (seen_steps steps.new.items
+        ≡ seen_steps steps.old.items ++ merge.if_any (run_of cycles)) }
 {
     if cycles > 0 {
         steps.push(BitStep::Run(cycles))?;
@@ -84,7 +87,8 @@ fn turn_joins(
     named: &mut Named,
     heads: &[&BitStep],
 ) -> Result<Vec<Vec<Group>>, OutOfMemory>
-    ensures { IfOk result (λ js. seen_joins js.items ≡ merge.all_joins (places_in tree.now) (merge.applies_in (seen_heads heads.now))) }
+    ensures { IfOk result (λ js. seen_joins js.items
+        ≡ merge.all_joins (places_in tree.now) (merge.applies_in (seen_heads heads.now))) }
 {
     let applies = applies_in(alloc, heads)?;
     all_joins(alloc, tree, named, &applies)
@@ -98,7 +102,8 @@ fn put_turn(
     heads: &[&BitStep],
     steps: &mut List<BitStep>,
 ) -> Result<(), OutOfMemory>
-    ensures { OnOk result (seen_steps steps.new.items ≡ seen_steps steps.old.items ++ merge.turn (places_in tree.now) (seen_heads heads.now)) }
+    ensures { OnOk result (seen_steps steps.new.items
+        ≡ seen_steps steps.old.items ++ merge.turn (places_in tree.now) (seen_heads heads.now)) }
 {
     let joins = turn_joins(alloc, tree, named, heads)?;
     put_joins(joins, steps)?;
@@ -115,8 +120,10 @@ struct Turn<'a> {
 impl<'a> Turn<'a> {
     /// Takes the first bit step of a branch, if it has one.
     fn take(&mut self, branch: &'a [BitStep]) -> Result<(), OutOfMemory>
-        ensures heads { OnOk result (seen_heads self.new.heads.items ≡ seen_heads self.old.heads.items ++ merge.firsts (seen_steps branch.now ∷ [])) }
-        ensures left { OnOk result (seen_slices self.new.left.items ≡ seen_slices self.old.left.items ++ merge.later (seen_steps branch.now ∷ [])) }
+        ensures heads { OnOk result (seen_heads self.new.heads.items
+            ≡ seen_heads self.old.heads.items ++ merge.firsts (seen_steps branch.now ∷ [])) }
+        ensures left { OnOk result (seen_slices self.new.left.items
+            ≡ seen_slices self.old.left.items ++ merge.later (seen_steps branch.now ∷ [])) }
     {
         if let [first, left @ ..] = branch {
             self.heads.push(first)?;
@@ -164,7 +171,8 @@ fn put_merged(
     steps: &mut List<BitStep>,
 ) -> Result<(), OutOfMemory>
     requires { steps.old.items ≡ [] }
-    ensures { OnOk result (seen_steps steps.new.items ≡ merge.merged (places_in tree.now) (seen_lists branches.now)) }
+    ensures { OnOk result (seen_steps steps.new.items
+        ≡ merge.merged (places_in tree.now) (seen_lists branches.now)) }
 {
     let mut left = branch_references(alloc, branches)?;
     while !left.is_empty() {
@@ -182,7 +190,8 @@ pub(crate) fn merged_by(
     named: &mut Named,
     branches: &[List<BitStep>],
 ) -> Result<List<BitStep>, OutOfMemory>
-    ensures { IfOk result (λ l. seen_steps l.items ≡ merge.merged (places_in tree.now) (seen_lists branches.now)) }
+    ensures { IfOk result (λ l. seen_steps l.items
+        ≡ merge.merged (places_in tree.now) (seen_lists branches.now)) }
 {
     let mut steps = List::new(alloc);
     match put_merged(alloc, tree, named, branches, &mut steps) {
@@ -200,7 +209,8 @@ pub fn merged(
     tree: &Tree,
     branches: &[List<BitStep>],
 ) -> Result<List<BitStep>, OutOfMemory>
-    ensures { IfOk result (λ l. seen_steps l.items ≡ merge.merged (places_in tree.now) (seen_lists branches.now)) }
+    ensures { IfOk result (λ l. seen_steps l.items
+        ≡ merge.merged (places_in tree.now) (seen_lists branches.now)) }
 {
     let mut named = Named::new(alloc);
     merged_by(alloc, tree, &mut named, branches)

@@ -1,5 +1,6 @@
 -- The test of a network's muxes: on the bench it is quiet, and a stuck mux that is seen is found.
-use Rattle.std.proofs.Common.{◌≡◌, ⊎_elim, ℕ, ◌<◌, ◌≤◌, true, List, [], ◌∷◌, ◌++◌, length, refl, sym, ap, ◌∙◌, subst, arith}
+use Rattle.std.proofs.Common.{◌≡◌, ⊎_elim, ℕ, ◌<◌, ◌≤◌, true, List, [], ◌∷◌, ◌++◌, length, refl, sym, ap, ◌∙◌}
+use Rattle.std.proofs.Common.{subst, arith}
 use Rattle.std.specs.Prelude.{map}
 use Rattle.std.specs.List.{flat_map}
 use Rattle.std.proofs.lemmas.Bool.{cases_lt, true≢false}
@@ -28,7 +29,8 @@ use Rattle.tap_machine.specs.declared.Stable.TheVariants.{Idle as InIdle}
 use Rattle.net_bench.proofs.PublicLaws.{plays_split, rests_as}
 use Rattle.mux_test.specs.Seen.{begins, is_seen, is_seen_in_test}
 use Rattle.mux_test.specs.Test.{flushes, scanned, tested_from, branches}
-use Rattle.mux_test.specs.Laws.{IsTestable, stuck, after_scans, after_test, compared, TestsAreQuiet, StuckAreFound, RowsAreReached}
+use Rattle.mux_test.specs.Laws.{IsTestable, stuck, after_scans, after_test, compared, TestsAreQuiet}
+use Rattle.mux_test.specs.Laws.{StuckAreFound, RowsAreReached}
 use Rattle.mux_test.proofs.Flushing.{Rests}
 use Rattle.mux_test.proofs.Playing.{AreQuiet, quiet, finds_stuck, flushes_whole, data_as}
 use Rattle.mux_test.proofs.Preface.{preface_plays, preface_compares_nothing, preface_rests}
@@ -61,7 +63,8 @@ module _ (net : Net) (form : Items) (t : IsTestable net form) where
   unseen = test_unseen net form t (branches net) start (all_branches net form t) scannable
 
   no_scans : length net.muxes.items ≤ 0 → hs ≡ []
-  no_scans none = ap (λ bs. flat_map (λ r. r.after) (tested_from net form start bs)) (no_branches net.muxes.items 0 none)
+  no_scans none = ap (λ bs. flat_map (λ r. r.after) (tested_from net form start bs))
+      (no_branches net.muxes.items 0 none)
 
   module _ {L : Type 0} (log : Log L) (device : Device) (machines : List Machine) (v : IsDevice device) where
     some : 0 < device.ir
@@ -91,13 +94,16 @@ module _ (net : Net) (form : Items) (t : IsTestable net form) where
       s_insts : s.insts ≡ (power_up chip).insts
       s_insts = ap (λ (z : State L). z.insts) (preface_plays chip some)
 
-      plays : (first : List Holds) → after_scans chip first ≡ play_from chip 1 (map SDR (flushes net start first)) s
+      plays : (first : List Holds)
+          → after_scans chip first ≡ play_from chip 1 (map SDR (flushes net start first)) s
       plays first =
-          (plays_split chip 0 pre (map SDR (flushes net start first)) (power_up chip) (flushes_whole net start first) (rests_as InIdle s s_rests.idle)).0
+          (plays_split chip 0 pre (map SDR (flushes net start first)) (power_up chip)
+          (flushes_whole net start first) (rests_as InIdle s s_rests.idle)).0
 
       compares : compared chip form ≡ compares_from chip 1 all s
       compares =
-          (plays_split chip 0 pre all (power_up chip) (flushes_whole net start hs) (rests_as InIdle s s_rests.idle)).1
+          (plays_split chip 0 pre all (power_up chip)
+          (flushes_whole net start hs) (rests_as InIdle s s_rests.idle)).1
           ∙ ap (λ cs. cs ++ compares_from chip 1 all s) (preface_compares_nothing chip some)
 
       here : (P : Holds → Type 0) → P start → P s.holds
@@ -113,16 +119,26 @@ module _ (net : Net) (form : Items) (t : IsTestable net form) where
       with_muxes some_mux =
           let s0 = s (route_of net) in
           let u = first_unseen net start first later (subst (AreUnseen net start) (sym both) unseen) in
-          subst (λ z. AreQuiet good 1 s0 z first) (s_holds (route_of net)) (quiet good t.well_formed wide (λ h. route_is net h t.well_formed) (not_empty net form t some_mux) (λ h. refl) first 1 s0 (s_rests (route_of net)) (here (route_of net) (IsScannable net) scannable) (here (route_of net) (λ z. AreUnseen net z first) u))
+          subst (λ z. AreQuiet good 1 s0 z first) (s_holds (route_of net)) (quiet good t.well_formed wide
+          (λ h. route_is net h t.well_formed) (not_empty net form t some_mux) (λ h. refl) first 1 s0
+          (s_rests (route_of net)) (here (route_of net) (IsScannable net) scannable)
+          (here (route_of net) (λ z. AreUnseen net z first) u))
 
       good_quiet : AreQuiet good 1 (s (route_of net)) start first
       good_quiet =
-          ⊎_elim (λ some_mux. with_muxes some_mux) (λ none. subst (AreQuiet good 1 (s (route_of net)) start) (sym (none_first first later (both ∙ no_scans none))) (record { holds = s_holds (route_of net); insts = refl; none = refl })) (cases_lt 0 (length net.muxes.items))
+          ⊎_elim (λ some_mux. with_muxes some_mux) (λ none. subst (AreQuiet good 1 (s (route_of net)) start)
+          (sym (none_first first later (both ∙ no_scans none))) (record {
+            holds = s_holds (route_of net);
+            insts = refl;
+            none = refl;
+          })) (cases_lt 0 (length net.muxes.items))
 
       pub scans_held : (after_scans good first).holds ≡ last_holds start first
       scans_held = ap (λ (z : State L). z.holds) (plays (route_of net) first) ∙ good_quiet.holds
 
-    pub quiet_test : (differing (compared good form) ≡ []) × ((after_test good form).insts ≡ (power_up good).insts) × ((after_test good form).holds ≡ last_holds start hs)
+    pub quiet_test : (differing (compared good form) ≡ [])
+        × ((after_test good form).insts ≡ (power_up good).insts)
+        × ((after_test good form).holds ≡ last_holds start hs)
     quiet_test =
         let all_quiet = good_quiet hs [] (append-nil hs) in (
           ap differing (compares (route_of net)) ∙ all_quiet.none,
@@ -142,19 +158,34 @@ module _ (net : Net) (form : Items) (t : IsTestable net form) where
       finds : 0 < length net.muxes.items → 1 ≤ length (differing (compares_from bad 1 (all way) (s way)))
       finds some_mux =
           let s0 = s way in
-          subst (λ z. 1 ≤ length (differing (compares_from bad 1 (map SDR (flushes net z hs)) s0))) (s_holds way) (finds_stuck bad t.well_formed wide (λ h. stuck_route_is net b h t.well_formed) (not_empty net form t some_mux) b (λ h. refl) hs 1 s0 (s_rests way) (here way (IsScannable net) scannable) (here way (λ z. AreUnseen net z hs) unseen) (here way (λ z. is_seen net b (begins z hs) ≡ true) seen))
+          subst (λ z. 1 ≤ length (differing (compares_from bad 1 (map SDR (flushes net z hs)) s0)))
+          (s_holds way) (finds_stuck bad t.well_formed wide (λ h. stuck_route_is net b h t.well_formed)
+          (not_empty net form t some_mux) b (λ h. refl) hs 1 s0 (s_rests way)
+          (here way (IsScannable net) scannable) (here way (λ z. AreUnseen net z hs) unseen)
+          (here way (λ z. is_seen net b (begins z hs) ≡ true) seen))
 
       pub stuck_found : 1 ≤ length (differing (compared bad form))
       stuck_found =
-          subst (λ cs. 1 ≤ length (differing cs)) (sym (compares way)) (⊎_elim (λ some_mux. finds some_mux) (λ none. absurd (true≢false (sym (sym (ap (λ ks. is_seen net b (begins start ks)) (no_scans none)) ∙ seen)))) (cases_lt 0 (length net.muxes.items)))
+          subst (λ cs. 1 ≤ length (differing cs)) (sym (compares way))
+          (⊎_elim (λ some_mux. finds some_mux) (λ none. absurd
+          (true≢false (sym (sym (ap (λ ks. is_seen net b (begins start ks)) (no_scans none)) ∙ seen))))
+          (cases_lt 0 (length net.muxes.items)))
 
 pub tests_are_quiet : TestsAreQuiet
 tests_are_quiet net form device machines t v =
     let (none, insts, holds) = quiet_test net form t whole_log device machines v in
-    record { none_differs = none; no_event = insts; data_stays = λ b f. ap (λ h. hold_at h b) holds ∙ data_as net (start_holds net) (scanned net form) b (unseen net form t) f; stages = scans_held net form t whole_log device machines v }
+    record {
+      none_differs = none;
+      no_event = insts;
+      data_stays = λ b f. ap (λ h. hold_at h b) holds
+          ∙ data_as net (start_holds net) (scanned net form) b (unseen net form t) f;
+      stages = scans_held net form t whole_log device machines v;
+    }
 
 pub stuck_are_found : StuckAreFound
-stuck_are_found net form device machines b t v seen = stuck_found net form t whole_log device machines v b seen
+stuck_are_found net form device machines b t v seen =
+    stuck_found net form t whole_log device machines v b seen
 
 pub rows_are_reached : RowsAreReached
-rows_are_reached net form t = test_reached net form t (branches net) (start_holds net) (all_branches net form t) (start_scannable net form t.lawful)
+rows_are_reached net form t = test_reached net form t (branches net) (start_holds net)
+    (all_branches net form t) (start_scannable net form t.lawful)

@@ -1,5 +1,5 @@
--- The preface, played from power-up on any bench: it rests in Run-Test/Idle with the link's instruction, and all else is as it
--- was.
+-- The preface, played from power-up on any bench: it rests in Run-Test/Idle with the link's instruction, and
+-- all else is as it was.
 use Rattle.std.proofs.Common.{◌≡◌, ◌<◌, Bool, List, [], refl, sym, subst}
 use Rattle.ij_bits.specs.BitLists.{bits_of}
 use Rattle.ij_bits.proofs.WordBits.{length-bits_of}
@@ -18,7 +18,8 @@ module _ {L : Type 0} (chip : Chip L) (some : 0 < chip.device.ir) where
   abbrev pub idle : State L
   idle = record (power_up chip) { tap = RunTestIdle }
 
-  pub preface_plays : play_from chip 0 (preface_commands chip.device) (power_up chip) ≡ loaded chip idle opcode
+  pub preface_plays : play_from chip 0 (preface_commands chip.device) (power_up chip)
+      ≡ loaded chip idle opcode
   preface_plays = (prefaces_link chip 0 some).1
 
   pub preface_compares_nothing : compares_from chip 0 (preface_commands chip.device) (power_up chip) ≡ []
@@ -28,4 +29,13 @@ module _ {L : Type 0} (chip : Chip L) (some : 0 < chip.device.ir) where
   pub preface_rests : Rests chip (play_from chip 0 (preface_commands chip.device) (power_up chip))
   preface_rests =
       let p = is_shaped_first chip in
-      subst (Rests chip) (sym preface_plays) (record { idle = refl; link = refl; shaped = record { stages = p.stages; holds = p.holds; ir = length-bits_of chip.device.ir chip.device.opcode } })
+      subst (Rests chip) (sym preface_plays) (record {
+        idle = refl;
+        link = refl;
+        shaped = record {
+          stages =
+              p.stages;
+          holds = p.holds;
+          ir = length-bits_of chip.device.ir chip.device.opcode;
+        };
+      })

@@ -1,5 +1,7 @@
 -- The active path, also where one mux is stuck, as a loop finds it.
-use Rattle.std.proofs.Common.{◌≡◌, ℕ, zero, suc, ◌+◌, ◌-◌, ◌<◌, ◌≤◌, ◌≢◌, Bool, true, false, List, [], ◌∷◌, ◌++◌, length, get_or, Option, Some, None, refl, sym, ap, ◌∙◌, subst, arith, length-append}
+use Rattle.std.proofs.Common.{◌≡◌, ℕ, zero, suc, ◌+◌, ◌-◌, ◌<◌, ◌≤◌, ◌≢◌, Bool, true, false, List, [], ◌∷◌}
+use Rattle.std.proofs.Common.{◌++◌, length, get_or, Option, Some, None, refl, sym, ap, ◌∙◌, subst, arith}
+use Rattle.std.proofs.Common.{length-append}
 use Rattle.std.specs.Prelude.{map, All, option_map, ◌==◌, unwrap_or}
 use Rattle.std.specs.List.{slice_get}
 use Rattle.std.specs.Option.{option_and_then}
@@ -29,28 +31,37 @@ use Rattle.mux_test.specs.Steps.{before, route_where, source_of}
 
 -- ---- what a mux passes on
 
-row_at : (rs : List Row) (q : ℕ) (row : Row) → q < length rs → row ≡ get_or rs q row → Some row.from ≡ slice_get (map (λ r. r.from) rs) q
+row_at : (rs : List Row) (q : ℕ) (row : Row) → q < length rs → row ≡ get_or rs q row
+    → Some row.from ≡ slice_get (map (λ r. r.from) rs) q
 row_at [] q row l e = absurd (omega (arith, l))
 row_at (r ∷ rs) zero row l e = ap (λ x. Some x.from) e
 row_at (r ∷ rs) (suc q) row l e = row_at rs q row (omega (arith, l)) e
 
-pub rows_are : (net : Net) (m : ℕ) (mux : Mux) → m < length net.muxes.items → mux ≡ get_or net.muxes.items m mux → rows_of net m ≡ mux.rows.items
+pub rows_are : (net : Net) (m : ℕ) (mux : Mux) → m < length net.muxes.items
+    → mux ≡ get_or net.muxes.items m mux → rows_of net m ≡ mux.rows.items
 rows_are net m mux l e =
     get_or-map (λ x. x.rows.items) net.muxes.items m mux [] l ∙ ap (λ x. x.rows.items) (sym e)
 
-pub source_is : (net : Net) (b : Branch) (mux : Mux) (row : Row) → IsBranchOf net b → mux ≡ get_or net.muxes.items b.mux mux → row ≡ get_or mux.rows.items b.row row → Some row.from ≡ row_source net b
+pub source_is : (net : Net) (b : Branch) (mux : Mux) (row : Row) → IsBranchOf net b
+    → mux ≡ get_or net.muxes.items b.mux mux
+    → row ≡ get_or mux.rows.items b.row row → Some row.from ≡ row_source net b
 source_is net b mux row is e f =
     let rows = rows_are net b.mux mux is.mux e in
-    row_at mux.rows.items b.row row (omega (arith, is.row, ap length rows)) f ∙ ap (λ rs. slice_get (map (λ r. r.from) rs) b.row) (sym rows)
+    row_at mux.rows.items b.row row (omega (arith, is.row, ap length rows)) f
+    ∙ ap (λ rs. slice_get (map (λ r. r.from) rs) b.row) (sym rows)
 
 -- the row that lists the select value
-row_found : (k : ℕ) (rs : List Row) (bits : List Bool) (q : ℕ) → row_from k rs bits ≡ Some q → (i : ℕ) × (k + i ≡ q) × (i < length rs) × (row_point rs bits ≡ slice_get (map (λ r. r.from) rs) i)
+row_found : (k : ℕ) (rs : List Row) (bits : List Bool) (q : ℕ) → row_from k rs bits ≡ Some q
+    → (i : ℕ) × (k + i ≡ q) × (i < length rs) × (row_point rs bits ≡ slice_get (map (λ r. r.from) rs) i)
 row_found k [] bits q e = absurd (none-some q e)
 row_found k (r ∷ rs) bits q e = on (some_matches r.values.items bits) e (row_found (suc k) rs bits q)
   where
     on : (t : Bool) → elim t as (λ _. Option ℕ) [ true ↦ Some k | false ↦ row_from (suc k) rs bits ] ≡ Some q
-        → (row_from (suc k) rs bits ≡ Some q → (i : ℕ) × (suc k + i ≡ q) × (i < length rs) × (row_point rs bits ≡ slice_get (map (λ r. r.from) rs) i))
-        → (i : ℕ) × (k + i ≡ q) × (i < length (r ∷ rs)) × (elim t as (λ _. Option Point) [ true ↦ Some r.from | false ↦ row_point rs bits ] ≡ slice_get (map (λ r. r.from) (r ∷ rs)) i)
+        → (row_from (suc k) rs bits ≡ Some q → (i : ℕ) × (suc k + i ≡ q) × (i < length rs)
+        × (row_point rs bits ≡ slice_get (map (λ r. r.from) rs) i))
+        → (i : ℕ) × (k + i ≡ q) × (i < length (r ∷ rs))
+        × (elim t as (λ _. Option Point) [ true ↦ Some r.from | false ↦ row_point rs bits ]
+        ≡ slice_get (map (λ r. r.from) (r ∷ rs)) i)
     on true f later = (0, (let s : k ≡ q = same_Some k q f in omega (arith, s)), omega arith, refl)
     on false f later = let (i, s, l, p) = later f in (suc i, omega (arith, s), omega (arith, l), p)
 
@@ -58,52 +69,72 @@ pub record IsSelected (net : Net) (holds : Holds) (b : Branch) : Type 0 where
   pub there : IsBranchOf net b
   pub source : mux_source net holds b.mux ≡ row_source net b
 
-pub selected : (net : Net) (holds : Holds) (m q : ℕ) → m < length net.muxes.items → row_of net holds m ≡ Some q → IsSelected net holds (record { mux = m; row = q })
+pub selected : (net : Net) (holds : Holds) (m q : ℕ) → m < length net.muxes.items
+    → row_of net holds m ≡ Some q → IsSelected net holds (record { mux = m; row = q })
 selected net holds m q l e =
     let (i, s, k, p) = row_found 0 (rows_of net m) (select_value net holds m) q e in
     let same : i ≡ q = omega (arith, s) in
-    record { there = record { mux = l; row = omega (arith, same, k) }; source = p ∙ ap (slice_get (map (λ r. r.from) (rows_of net m))) same }
+    record {
+      there = record { mux = l; row = omega (arith, same, k) };
+      source = p ∙ ap (slice_get (map (λ r. r.from) (rows_of net m))) same;
+    }
 
 no_row : (k : ℕ) (rs : List Row) (bits : List Bool) → row_from k rs bits ≡ None → row_point rs bits ≡ None
 no_row k [] bits e = refl
 no_row k (r ∷ rs) bits e = on (some_matches r.values.items bits) e (no_row (suc k) rs bits)
   where
-    on : (t : Bool) → elim t as (λ _. Option ℕ) [ true ↦ Some k | false ↦ row_from (suc k) rs bits ] ≡ None → (row_from (suc k) rs bits ≡ None → row_point rs bits ≡ None) → elim t as (λ _. Option Point) [ true ↦ Some r.from | false ↦ row_point rs bits ] ≡ None
+    on : (t : Bool) → elim t as (λ _. Option ℕ) [ true ↦ Some k | false ↦ row_from (suc k) rs bits ] ≡ None
+        → (row_from (suc k) rs bits ≡ None → row_point rs bits ≡ None)
+        → elim t as (λ _. Option Point) [ true ↦ Some r.from | false ↦ row_point rs bits ] ≡ None
     on true f later = absurd (none-some k (sym f))
     on false f later = later f
 
-pub same_row_source : (net : Net) (a b : Branch) → a.mux ≡ b.mux → a.row ≡ b.row → row_source net a ≡ row_source net b
+pub same_row_source : (net : Net) (a b : Branch) → a.mux ≡ b.mux
+    → a.row ≡ b.row → row_source net a ≡ row_source net b
 same_row_source net a b e f =
-    ap (λ m. row_source net (record { mux = m; row = a.row })) e ∙ ap (λ q. row_source net (record { mux = b.mux; row = q })) f
+    ap (λ m. row_source net (record { mux = m; row = a.row })) e
+    ∙ ap (λ q. row_source net (record { mux = b.mux; row = q })) f
 
-pub stuck_here : (net : Net) (b : Branch) (holds : Holds) (m : ℕ) → m ≡ b.mux → row_source net b ≡ stuck_source net b holds m
+pub stuck_here : (net : Net) (b : Branch) (holds : Holds) (m : ℕ) → m ≡ b.mux
+    → row_source net b ≡ stuck_source net b holds m
 stuck_here net b holds m e =
-    ap (λ (t : Bool). elim t as (λ _. Option Point) [ true ↦ row_source net b | false ↦ mux_source net holds m ]) (sym (eq-eqb m b.mux e))
+    ap (λ (t : Bool). elim t as (λ _. Option Point) [
+      | true ↦ row_source net b
+      | false ↦ mux_source net holds m
+    ]) (sym (eq-eqb m b.mux e))
 
-pub stuck_elsewhere : (net : Net) (b : Branch) (holds : Holds) (m : ℕ) → m ≢ b.mux → mux_source net holds m ≡ stuck_source net b holds m
+pub stuck_elsewhere : (net : Net) (b : Branch) (holds : Holds) (m : ℕ) → m ≢ b.mux
+    → mux_source net holds m ≡ stuck_source net b holds m
 stuck_elsewhere net b holds m n = on (m == b.mux) (λ t. n (eqb-true m b.mux t))
   where
-    on : (t : Bool) → (t ≡ true → ⊥) → mux_source net holds m ≡ elim t as (λ _. Option Point) [ true ↦ row_source net b | false ↦ mux_source net holds m ]
+    on : (t : Bool) → (t ≡ true → ⊥) → mux_source net holds m
+        ≡ elim t as (λ _. Option Point) [ true ↦ row_source net b | false ↦ mux_source net holds m ]
     on true h = absurd (h refl)
     on false h = refl
 
 -- ---- what is met next is there
 
-row_point_there : (net : Net) (rs : List Row) (q : ℕ) (p : Point) → All (λ r. IsPointOf net r.from) rs → slice_get (map (λ r. r.from) rs) q ≡ Some p → IsPointOf net p
+row_point_there : (net : Net) (rs : List Row) (q : ℕ) (p : Point) → All (λ r. IsPointOf net r.from) rs
+    → slice_get (map (λ r. r.from) rs) q ≡ Some p → IsPointOf net p
 row_point_there net [] q p a e = absurd (none-some p e)
 row_point_there net (r ∷ rs) zero p a e =
     subst (IsPointOf net) (same_Some r.from p e) (All-head (λ (r : Row). IsPointOf net r.from) r rs a)
 row_point_there net (r ∷ rs) (suc q) p a e =
     row_point_there net rs q p (All-tail (λ (r : Row). IsPointOf net r.from) r rs a) e
 
-pub before_there : (net : Net) (stuck : Option Branch) (holds : Holds) (p q : Point) → IsNet net → IsPointOf net p → before net (source_of net stuck holds) p ≡ Some q → IsPointOf net q
+pub before_there : (net : Net) (stuck : Option Branch) (holds : Holds) (p q : Point) → IsNet net
+    → IsPointOf net p → before net (source_of net stuck holds) p ≡ Some q → IsPointOf net q
 before_there net stuck holds Entry q w i e = before_is_point net holds Entry q w i e
 before_there net stuck holds (Reg r) q w i e = before_is_point net holds (Reg r) q w i e
 before_there net None holds (FromMux m) q w i e = before_is_point net holds (FromMux m) q w i e
 before_there net (Some b) holds (FromMux m) q w i e = on (m == b.mux) e
   where
-    on : (t : Bool) → elim t as (λ _. Option Point) [ true ↦ row_source net b | false ↦ mux_source net holds m ] ≡ Some q → IsPointOf net q
-    on true f = row_point_there net (rows_of net b.mux) b.row q (mux_points net net.muxes.items b.mux w.muxes) f
+    on : (t : Bool) → elim t as (λ _. Option Point) [
+      | true ↦ row_source net b
+      | false ↦ mux_source net holds m
+    ] ≡ Some q → IsPointOf net q
+    on true f = row_point_there net (rows_of net b.mux) b.row q
+        (mux_points net net.muxes.items b.mux w.muxes) f
     on false f = before_is_point net holds (FromMux m) q w i f
 
 -- ---- the registers met so far, and what is still to be traced
@@ -116,10 +147,12 @@ module _ (net : Net) (source : ℕ → Option Point) where
   route = unwrap_or (trace_by net source (moves net) net.out) []
 
   abbrev pub IsTracedBy : ℕ → Point → List ℕ → Type 0
-  IsTracedBy n p met = trace_by net source (moves net) net.out ≡ option_map (λ rs. met ++ rs) (trace_by net source n p)
+  IsTracedBy n p met = trace_by net source (moves net) net.out
+      ≡ option_map (λ rs. met ++ rs) (trace_by net source n p)
 
   -- one step of a trace: what a point is, then what is met before it
-  pub by_step : (n : ℕ) (p : Point) → trace_by net source (suc n) p ≡ option_and_then (λ q. option_map (λ rs. registers_at p ++ rs) (trace_by net source n q)) (before net source p)
+  pub by_step : (n : ℕ) (p : Point) → trace_by net source (suc n) p ≡ option_and_then
+      (λ q. option_map (λ rs. registers_at p ++ rs) (trace_by net source n q)) (before net source p)
   by_step n Entry = on n
     where
       on : (n : ℕ) → Some [] ≡ option_map (λ rs. [] ++ rs) (trace_by net source n Entry)
@@ -132,44 +165,55 @@ module _ (net : Net) (source : ℕ → Option Point) where
       same None = refl
       same (Some rs) = refl
 
-      on : (o : Option Point) → option_and_then (trace_by net source n) o ≡ option_and_then (λ q. option_map (λ rs. [] ++ rs) (trace_by net source n q)) o
+      on : (o : Option Point) → option_and_then (trace_by net source n) o
+          ≡ option_and_then (λ q. option_map (λ rs. [] ++ rs) (trace_by net source n q)) o
       on None = refl
       on (Some q) = same (trace_by net source n q)
 
-  map_twice : (a b : List ℕ) (o : Option (List ℕ)) → option_map (λ rs. a ++ rs) (option_map (λ rs. b ++ rs) o) ≡ option_map (λ rs. (a ++ b) ++ rs) o
+  map_twice : (a b : List ℕ) (o : Option (List ℕ))
+      → option_map (λ rs. a ++ rs) (option_map (λ rs. b ++ rs) o) ≡ option_map (λ rs. (a ++ b) ++ rs) o
   map_twice a b None = refl
   map_twice a b (Some rs) = ap Some (sym (append_assoc a b rs))
 
-  pub by_turn : (i : ℕ) (p q : Point) (met now : List ℕ) → i < moves net → Some q ≡ before net source p → now ≡ met ++ registers_at p → IsTracedBy (moves net - i) p met → IsTracedBy (moves net - (i + 1)) q now
+  pub by_turn : (i : ℕ) (p q : Point) (met now : List ℕ) → i < moves net → Some q ≡ before net source p
+      → now ≡ met ++ registers_at p → IsTracedBy (moves net - i) p met
+      → IsTracedBy (moves net - (i + 1)) q now
   by_turn i p q met now l e a t =
       let n = moves net - (i + 1) in
       let z : moves net - i ≡ suc n = omega (arith, l) in
       subst (IsTracedBy n q) (sym a) (
       subst (λ k. IsTracedBy k p met) z t
-      ∙ ap (option_map (λ rs. met ++ rs)) (by_step n p ∙ ap (option_and_then (λ x. option_map (λ rs. registers_at p ++ rs) (trace_by net source n x))) (sym e))
+      ∙ ap (option_map (λ rs. met ++ rs)) (by_step n p ∙ ap
+      (option_and_then (λ x. option_map (λ rs. registers_at p ++ rs) (trace_by net source n x))) (sym e))
       ∙ map_twice met (registers_at p) (trace_by net source n q)
       )
 
-  empty : (n : ℕ) (p : Point) (met : List ℕ) → trace_by net source n p ≡ None → IsTracedBy n p met → [] ≡ route
+  empty : (n : ℕ) (p : Point) (met : List ℕ)
+      → trace_by net source n p ≡ None → IsTracedBy n p met → [] ≡ route
   empty n p met e t = ap (λ o. unwrap_or o []) (sym (t ∙ ap (option_map (λ rs. met ++ rs)) e))
 
   -- no path where a mux passes on nothing
-  pub by_none : (i : ℕ) (p : Point) (met now : List ℕ) → i < moves net → None ≡ before net source p → now ≡ [] → IsTracedBy (moves net - i) p met → now ≡ route
+  pub by_none : (i : ℕ) (p : Point) (met now : List ℕ) → i < moves net → None ≡ before net source p → now ≡ []
+      → IsTracedBy (moves net - i) p met → now ≡ route
   by_none i p met now l e a t =
       let n = moves net - (i + 1) in
       let z : moves net - i ≡ suc n = omega (arith, l) in
-      a ∙ empty (suc n) p met (by_step n p ∙ ap (option_and_then (λ x. option_map (λ rs. registers_at p ++ rs) (trace_by net source n x))) (sym e)) (subst (λ k. IsTracedBy k p met) z t)
+      a ∙ empty (suc n) p met (by_step n p ∙ ap
+      (option_and_then (λ x. option_map (λ rs. registers_at p ++ rs) (trace_by net source n x))) (sym e))
+      (subst (λ k. IsTracedBy k p met) z t)
 
   -- the end, at the entry or elsewhere
   pub by_entry : (n : ℕ) (p : Point) (met : List ℕ) → p ≡ Entry → IsTracedBy n p met → met ≡ route
   by_entry n p met e t =
-      sym (ap (λ o. unwrap_or o []) (t ∙ ap (λ x. option_map (λ rs. met ++ rs) (trace_by net source n x)) e ∙ ended n) ∙ append-nil met)
+      sym (ap (λ o. unwrap_or o [])
+      (t ∙ ap (λ x. option_map (λ rs. met ++ rs) (trace_by net source n x)) e ∙ ended n) ∙ append-nil met)
     where
       ended : (n : ℕ) → option_map (λ rs. met ++ rs) (trace_by net source n Entry) ≡ Some (met ++ [])
       ended zero = refl
       ended (suc n) = refl
 
-  pub by_end : (n : ℕ) (p : Point) (met now : List ℕ) → n ≡ 0 → (p ≡ Entry → ⊥) → now ≡ [] → IsTracedBy n p met → now ≡ route
+  pub by_end : (n : ℕ) (p : Point) (met now : List ℕ) → n ≡ 0 → (p ≡ Entry → ⊥)
+      → now ≡ [] → IsTracedBy n p met → now ≡ route
   by_end n p met now z e a t = a ∙ empty 0 p met (stops p e) (subst (λ k. IsTracedBy k p met) z t)
     where
       stops : (p : Point) → (p ≡ Entry → ⊥) → trace_by net source 0 p ≡ None
@@ -178,7 +222,9 @@ module _ (net : Net) (source : ℕ → Option Point) where
       stops (FromMux m) e = refl
 
   -- no path with more registers than there are
-  pub by_full : (n : ℕ) (p : Point) (met now : List ℕ) → registers_at p ≢ [] → length met ≡ length net.regs.items → IsRoute (length net.regs.items) route → now ≡ [] → IsTracedBy n p met → now ≡ route
+  pub by_full : (n : ℕ) (p : Point) (met now : List ℕ) → registers_at p ≢ []
+      → length met ≡ length net.regs.items → IsRoute (length net.regs.items) route
+      → now ≡ [] → IsTracedBy n p met → now ≡ route
   by_full n Entry met now h l r a t = absurd (h refl)
   by_full n (FromMux m) met now h l r a t = absurd (h refl)
   by_full n (Reg x) met now h l r a t = a ∙ on (trace_by net source (moves net) net.out) refl
@@ -193,16 +239,19 @@ module _ (net : Net) (source : ℕ → Option Point) where
       on None e = refl
       on (Some whole) e =
           let (tail, f, g) = map_some (λ rs. met ++ rs) (trace_by net source n (Reg x)) whole (sym t ∙ e) in
-          let fits = route_fits (length net.regs.items) whole (subst (λ o. IsRoute (length net.regs.items) (unwrap_or o [])) e r) in
+          let fits = route_fits (length net.regs.items) whole
+          (subst (λ o. IsRoute (length net.regs.items) (unwrap_or o [])) e r) in
           absurd (omega (arith, fits, l, longer n tail f, ap length g, length-append met tail))
 
 -- ---- the path, also where one mux is stuck, as it is traced by sources
 
-where_route : (net : Net) (stuck : Option Branch) (holds : Holds) → route net (source_of net stuck holds) ≡ route_where net stuck holds
+where_route : (net : Net) (stuck : Option Branch) (holds : Holds)
+    → route net (source_of net stuck holds) ≡ route_where net stuck holds
 where_route net None holds = ap (λ o. unwrap_or o []) (trace_is_by net holds (moves net) net.out)
 where_route net (Some b) holds = refl
 
-where_route_is : (net : Net) (stuck : Option Branch) (holds : Holds) → IsNet net → IsRoute (length net.regs.items) (route net (source_of net stuck holds))
+where_route_is : (net : Net) (stuck : Option Branch) (holds : Holds) → IsNet net
+    → IsRoute (length net.regs.items) (route net (source_of net stuck holds))
 where_route_is net None holds w =
     subst (IsRoute (length net.regs.items)) (sym (where_route net None holds)) (route_is net holds w)
 where_route_is net (Some b) holds w = stuck_route_is net b holds w
@@ -211,16 +260,23 @@ module _ (net : Net) (stuck : Option Branch) (holds : Holds) where
   abbrev pub IsTraced : ℕ → Point → List ℕ → Type 0
   IsTraced n p met = IsTracedBy net (source_of net stuck holds) n p met
 
-  pub entry_where : (n : ℕ) (p : Point) (met : List ℕ) → p ≡ Entry → IsTraced n p met → met ≡ route_where net stuck holds
+  pub entry_where : (n : ℕ) (p : Point) (met : List ℕ) → p ≡ Entry
+      → IsTraced n p met → met ≡ route_where net stuck holds
   entry_where n p met e t = by_entry net (source_of net stuck holds) n p met e t ∙ where_route net stuck holds
 
-  pub none_where : (i : ℕ) (p : Point) (met now : List ℕ) → i < moves net → None ≡ before net (source_of net stuck holds) p → now ≡ [] → IsTraced (moves net - i) p met → now ≡ route_where net stuck holds
+  pub none_where : (i : ℕ) (p : Point) (met now : List ℕ) → i < moves net
+      → None ≡ before net (source_of net stuck holds) p → now ≡ []
+      → IsTraced (moves net - i) p met → now ≡ route_where net stuck holds
   none_where i p met now l e a t =
       by_none net (source_of net stuck holds) i p met now l e a t ∙ where_route net stuck holds
 
-  pub end_where : (n : ℕ) (p : Point) (met now : List ℕ) → n ≡ 0 → (p ≡ Entry → ⊥) → now ≡ [] → IsTraced n p met → now ≡ route_where net stuck holds
-  end_where n p met now z e a t = by_end net (source_of net stuck holds) n p met now z e a t ∙ where_route net stuck holds
+  pub end_where : (n : ℕ) (p : Point) (met now : List ℕ) → n ≡ 0 → (p ≡ Entry → ⊥) → now ≡ []
+      → IsTraced n p met → now ≡ route_where net stuck holds
+  end_where n p met now z e a t =
+      by_end net (source_of net stuck holds) n p met now z e a t ∙ where_route net stuck holds
 
-  pub full_where : (n : ℕ) (p : Point) (met now : List ℕ) → IsNet net → registers_at p ≢ [] → length met ≡ length net.regs.items → now ≡ [] → IsTraced n p met → now ≡ route_where net stuck holds
+  pub full_where : (n : ℕ) (p : Point) (met now : List ℕ) → IsNet net → registers_at p ≢ []
+      → length met ≡ length net.regs.items → now ≡ [] → IsTraced n p met → now ≡ route_where net stuck holds
   full_where n p met now w h l a t =
-      by_full net (source_of net stuck holds) n p met now h l (where_route_is net stuck holds w) a t ∙ where_route net stuck holds
+      by_full net (source_of net stuck holds) n p met now h l (where_route_is net stuck holds w) a t
+      ∙ where_route net stuck holds

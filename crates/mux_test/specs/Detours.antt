@@ -1,5 +1,5 @@
--- Where the active path and the path with a stuck mux go apart, and where they join again (IEEE 1687-2014: ScanMux, active scan
--- path).
+-- Where the active path and the path with a stuck mux go apart, and where they join again (IEEE 1687-2014:
+-- ScanMux, active scan path).
 use Rattle.std.specs.Prelude.{◌≡◌, ◌≢◌, ◌<◌, ◌≤◌, ◌+◌, ◌++◌, ℕ, List, length, Some}
 use Rattle.net_graph.specs.declared.branch.Branch.{Branch}
 use Rattle.net_graph.specs.declared.net.Net.{Net}
@@ -19,7 +19,8 @@ pub record IsDetour (net : Net) (holds : Holds) (b : Branch) (own other : List �
   pub stuck : stuck_route net b holds ≡ front ++ (other ++ rest)
 
 -- a path of so many moves from a mux on goes over these registers to a point, from which fewer moves are left
-pub record GoesTo (net : Net) (holds : Holds) (m : ℕ) (p : Point) (met : List ℕ) (moves : ℕ) (whole : List ℕ) : Type 0 where
+pub record GoesTo (net : Net) (holds : Holds) (m : ℕ) (p : Point) (met : List ℕ)
+    (moves : ℕ) (whole : List ℕ) : Type 0 where
   pub left : ℕ
   pub rest : List ℕ
   pub ends : trace net holds left p ≡ Some rest
@@ -31,7 +32,8 @@ pub record GoesTo (net : Net) (holds : Holds) (m : ℕ) (p : Point) (met : List 
 pub record IsTracedFrom (net : Net) (holds : Holds) (ahead : Point) (own : List ℕ) (m : ℕ) : Type 0 where
   pub there : IsPointOf net ahead
   pub few : length own ≤ length net.regs.items
-  pub goes : (n : ℕ) (whole : List ℕ) → trace net holds n (Mux m) ≡ Some whole → GoesTo net holds m ahead own n whole
+  pub goes : (n : ℕ) (whole : List ℕ) → trace net holds n (Mux m) ≡ Some whole
+      → GoesTo net holds m ahead own n whole
 
 -- room for two paths of a network
 pub record HasDetourRoom (net : Net) (detour : Detour) : Type 0 where

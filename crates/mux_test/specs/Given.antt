@@ -1,5 +1,5 @@
--- A mux test as contracts see it: its scans that are still to come, the rows that a mux may be stuck in unseen, and how many
--- scans and rows there are in all.
+-- A mux test as contracts see it: its scans that are still to come, the rows that a mux may be stuck in
+-- unseen, and how many scans and rows there are in all.
 use Rattle.std.specs.Prelude.{ℕ, List}
 use Rattle.net_graph.specs.declared.branch.Branch.{Branch}
 use Rattle.svf_writer.specs.SeenCommands.{seen_command}

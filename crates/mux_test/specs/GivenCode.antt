@@ -26,7 +26,8 @@ abbrev pub scan_of : ScanParts → SeenTestScan
 scan_of (branch, (first, scan)) = record { branch = branch; first = first; scan = scan }
 
 abbrev pub scan_code : Coded SeenTestScan
-scan_code = code_by ScanParts (coded× branch_code (coded× coded_bool command_code)) scan_parts scan_of (λ _. refl)
+scan_code =
+    code_by ScanParts (coded× branch_code (coded× coded_bool command_code)) scan_parts scan_of (λ _. refl)
 
 abbrev pub TestParts : Type 0
 TestParts = List SeenTestScan × (List Branch × (ℕ × ℕ))
@@ -39,4 +40,5 @@ test_of (scans, (unseen, (scan_count, row_count))) =
     record { scans = scans; unseen = unseen; scan_count = scan_count; row_count = row_count }
 
 abbrev pub test_code : Coded SeenTest
-test_code = code_by TestParts (coded× (coded_list scan_code) (coded× (coded_list branch_code) (coded× coded_ℕ coded_ℕ))) test_parts test_of (λ _. refl)
+test_code = code_by TestParts (coded× (coded_list scan_code)
+    (coded× (coded_list branch_code) (coded× coded_ℕ coded_ℕ))) test_parts test_of (λ _. refl)

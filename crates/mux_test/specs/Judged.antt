@@ -15,7 +15,10 @@ use Rattle.mux_test.specs.declared.judge.Verdict.TheVariants.{Open, Seen, Unseen
 -- what two paths say: the same registers say nothing yet, another path is told by its number of bits
 abbrev pub verdict_of : Holds → List ℕ → List ℕ → Verdict
 verdict_of h own other =
-    elim (same_registers own other) [ true ↦ Open | false ↦ elim (length (chain own h) == length (chain other h)) [ true ↦ Unseen | false ↦ Seen ] ]
+    elim (same_registers own other) [
+      | true ↦ Open
+      | false ↦ elim (length (chain own h) == length (chain other h)) [ true ↦ Unseen | false ↦ Seen ]
+    ]
 
 -- a row at a scan that begins with these update stages: what was found stays
 abbrev pub judge : Net → Holds → Branch → Verdict → Verdict

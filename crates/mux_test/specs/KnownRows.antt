@@ -14,4 +14,5 @@ pub record HasKnownRoom (net : Net) (known : KnownRows) : Type 0 where
 -- and in it the row that the mux is in
 pub record AreKnown (net : Net) (holds : Holds) (known : KnownRows) : Type 0 where
   pub room : HasKnownRoom net known
-  pub right : (m : ℕ) → m < length net.muxes.items → slice_index_or known.rows.items m None ≡ row_of net holds m
+  pub right : (m : ℕ) → m < length net.muxes.items
+      → slice_index_or known.rows.items m None ≡ row_of net holds m

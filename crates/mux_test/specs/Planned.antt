@@ -45,7 +45,8 @@ abbrev pub planned_flushes : Net → Holds → List SeenPlanned → List SeenTes
 planned_flushes net holds [] = []
 planned_flushes net holds (p ∷ ps) =
     let next = write_all holds p.plan.writes in
-    record { branch = p.branch; first = p.first; scan = SDR (flush net holds next) } ∷ planned_flushes net next ps
+    record { branch = p.branch; first = p.first; scan = SDR (flush net holds next) }
+    ∷ planned_flushes net next ps
 
 -- each scan can be done over the path that the earlier ones have left, and more after them
 abbrev pub AreFlushable : Net → Holds → List SeenPlanned → Type 0
@@ -56,7 +57,8 @@ AreFlushable net holds (p ∷ ps) =
 -- the bits that plans write are there
 abbrev pub AreWritable : Holds → List SeenGroup → Type 0
 AreWritable holds [] = Unit {0}
-AreWritable holds (p ∷ ps) = All (λ w. IsHeld holds w.bit) p.writes × AreWritable (write_all holds p.writes) ps
+AreWritable holds (p ∷ ps) = All (λ w. IsHeld holds w.bit) p.writes
+    × AreWritable (write_all holds p.writes) ps
 
 -- these are the scans of a network's test
 pub record ArePlannedTest (net : Net) (form : Items) (scans : List SeenPlanned) : Type 0 where

@@ -11,5 +11,6 @@ use Rattle.mux_test.specs.Test.{IsWithinLimit, test_commands, test_text}
 -- in the text of a test that isn't too long its commands are found
 abbrev pub TestsAreReadAgain : Type 0
 TestsAreReadAgain =
-    (net : Net) (form : Items) (device : Device) → IsTestable net form → IsDevice device → IsWithinLimit net form
+    (net : Net) (form : Items) (device : Device) → IsTestable net form
+    → IsDevice device → IsWithinLimit net form
     → svf (test_text net form device) ≡ Ok (test_commands net form device)

@@ -27,11 +27,13 @@ pub record CanWrite (net : Net) (s : SeenTestScan) : Type 0 where
   pub there : s.branch.mux < length net.muxes.items
   pub written : IsWrittenCommand s.scan
 
--- the scans of a test can be written, their texts make the text of the test, and the muxes of its unseen rows are there
+-- the scans of a test can be written, their texts make the text of the test, and the muxes of its unseen rows
+-- are there
 pub record IsTheText (net : Net) (form : Items) : Type 0 where
   pub can : All (CanWrite net) (test_scans net form)
   pub there : All (λ b. b.mux < length net.muxes.items) (unseen net form)
-  pub text : (device : Device) → preface device ++ scans_text net (test_scans net form) ≡ test_text net form device
+  pub text : (device : Device)
+      → preface device ++ scans_text net (test_scans net form) ≡ test_text net form device
 
 abbrev pub ScansMakeTheText : Type 0
 ScansMakeTheText = (net : Net) (form : Items) → IsTestable net form → IsTheText net form

@@ -1,5 +1,6 @@
 // Where the active path and the path with a stuck mux go apart, and where they join again.
-ghost use Rattle.std.specs.Prelude.{◌≡◌, ◌≢◌, ◌+◌, ◌<◌, ◌≤◌, [], length, Contains, IfOk, IsSome, IsTrue, None, Some};
+ghost use Rattle.std.specs.Prelude.{◌≡◌, ◌≢◌, ◌+◌, ◌<◌, ◌≤◌, [], length, Contains, IfOk, IsSome, IsTrue};
+ghost use Rattle.std.specs.Prelude.{None, Some};
 ghost use Rattle.std.specs.Option.{ForSome};
 ghost use Rattle.net_graph.specs.declared.net.Point.TheVariants as point;
 ghost use Rattle.net_graph.specs.MuxesMet.{active_muxes};
@@ -94,7 +95,8 @@ impl Detour {
         self.ahead = Point::Mux(mux);
     }
 
-    /// Goes back by one point on the active path, where there is one, and adds the register that is left. Takes no memory.
+    /// Goes back by one point on the active path, where there is one, and adds the register that is left.
+    /// Takes no memory.
     fn go_back(&mut self, net: &Net, holds: &Holds, known: &KnownRows, _mux: u32)
         requires well_formed { IsNet net.now }
         requires known { AreKnown net.now holds.now known.now }
@@ -112,8 +114,8 @@ impl Detour {
         }
     }
 
-    /// Traces the active path from a mux on until it leaves the mux's rows: there it meets each path on which the mux is stuck.
-    /// Takes no memory.
+    /// Traces the active path from a mux on until it leaves the mux's rows: there it meets each path on which
+    /// the mux is stuck. Takes no memory.
     fn trace_own(&mut self, net: &Net, tree: &Tree, holds: &Holds, known: &KnownRows, mux: u32)
         requires well_formed { IsNet net.now }
         requires known { AreKnown net.now holds.now known.now }
@@ -138,7 +140,8 @@ impl Detour {
         requires well_formed { IsNet net.now }
         requires known { AreKnown net.now holds.now known.now }
         requires mux { mux < length net.now.muxes.items }
-        requires own { ForSome self.old.from (IsTracedFrom net.now holds.now self.old.ahead self.old.own.items) }
+        requires own { ForSome self.old.from
+            (IsTracedFrom net.now holds.now self.old.ahead self.old.own.items) }
         requires room { HasDetourRoom net.now self.old }
         ensures from { self.new.from ≡ Some mux }
         ensures own { IsTracedFrom net.now holds.now self.new.ahead self.new.own.items mux }
@@ -149,8 +152,8 @@ impl Detour {
         }
     }
 
-    /// Traces the path on which a mux is stuck in a row, from the mux on until it joins the active path. Answers whether it does.
-    /// Takes no memory.
+    /// Traces the path on which a mux is stuck in a row, from the mux on until it joins the active path.
+    /// Answers whether it does. Takes no memory.
     fn trace_other(&mut self, net: &Net, holds: &Holds, known: &KnownRows, row: Branch) -> bool
         requires well_formed { IsNet net.now }
         requires known { AreKnown net.now holds.now known.now }
@@ -159,7 +162,8 @@ impl Detour {
         requires path { IsSome (active net.now holds.now) }
         requires own { IsTracedFrom net.now holds.now self.old.ahead self.old.own.items row.mux }
         requires room { HasDetourRoom net.now self.old }
-        ensures joins { IsTrue result → IsDetour net.now holds.now row self.new.own.items self.new.other.items }
+        ensures joins { IsTrue result
+            → IsDetour net.now holds.now row self.new.own.items self.new.other.items }
         ensures from { self.new.from ≡ self.old.from }
         ensures own { IsTracedFrom net.now holds.now self.new.ahead self.new.own.items row.mux }
         ensures room { HasDetourRoom net.now self.new }
@@ -182,8 +186,8 @@ impl Detour {
         false
     }
 
-    /// Traces the active path from a mux on, and the path on which that mux is stuck in a row, until they join again. Answers
-    /// whether they do. Takes no memory.
+    /// Traces the active path from a mux on, and the path on which that mux is stuck in a row, until they
+    /// join again. Answers whether they do. Takes no memory.
     pub(crate) fn find(
         &mut self,
         net: &Net,
@@ -197,10 +201,13 @@ impl Detour {
         requires row { IsBranchOf net.now row }
         requires met { Contains (active_muxes net.now holds.now) row.mux }
         requires path { IsSome (active net.now holds.now) }
-        requires own { ForSome self.old.from (IsTracedFrom net.now holds.now self.old.ahead self.old.own.items) }
+        requires own { ForSome self.old.from
+            (IsTracedFrom net.now holds.now self.old.ahead self.old.own.items) }
         requires room { HasDetourRoom net.now self.old }
-        ensures joins { IsTrue result → IsDetour net.now holds.now row self.new.own.items self.new.other.items }
-        ensures own { ForSome self.new.from (IsTracedFrom net.now holds.now self.new.ahead self.new.own.items) }
+        ensures joins { IsTrue result
+            → IsDetour net.now holds.now row self.new.own.items self.new.other.items }
+        ensures own { ForSome self.new.from
+            (IsTracedFrom net.now holds.now self.new.ahead self.new.own.items) }
         ensures room { HasDetourRoom net.now self.new }
     {
         self.take_own(net, tree, holds, known, row.mux);

@@ -1,5 +1,6 @@
 // Which rows a mux may be stuck in unseen, scan by scan.
-ghost use Rattle.std.specs.Prelude.{◌≡◌, ◌<◌, ◌≤◌, length, map, All, Contains, IfOk, IsFalse, IsSome, IsTrue, OnOk};
+ghost use Rattle.std.specs.Prelude.{◌≡◌, ◌<◌, ◌≤◌, length, map, All, Contains, IfOk, IsFalse, IsSome, IsTrue};
+ghost use Rattle.std.specs.Prelude.{OnOk};
 ghost use Rattle.std.specs.Str.{bytes_eq as same_registers};
 ghost use Rattle.net_graph.specs.Chain.{chain, IsRoute, NotIn};
 ghost use Rattle.net_graph.specs.declared.net.Net.{Net as ANet};
@@ -117,7 +118,8 @@ fn are_in(net: &Net, holds: &Holds, known: &KnownRows, place: &[Branch]) -> bool
     true
 }
 
-/// Whether the active path goes through a mux: each mux around it is in the row that it stands in. Takes no memory.
+/// Whether the active path goes through a mux: each mux around it is in the row that it stands in. Takes no
+/// memory.
 fn is_met(net: &Net, tree: &Tree, holds: &Holds, known: &KnownRows, mux: u32) -> bool
     requires testable { IsTestable net.now tree.now }
     requires scannable { IsScannable net.now holds.now }
@@ -148,7 +150,8 @@ impl Judge {
         requires holds { AreHolds net.now holds.now }
         requires row { IsBranchOf net.now row }
         requires ready { IsReady net.now holds.now self.old }
-        ensures verdict { result ≡ judged.verdict_of holds.now (route_of net.now holds.now) (stuck.stuck_route net.now row holds.now) }
+        ensures verdict { result ≡ judged.verdict_of holds.now (route_of net.now holds.now)
+            (stuck.stuck_route net.now row holds.now) }
         ensures ready { IsReady net.now holds.now self.new }
     {
         self.detour.forget();
@@ -161,8 +164,8 @@ impl Judge {
         )
     }
 
-    /// The same for a mux that the active path goes through, by the parts of the paths that differ where they join again. Takes
-    /// no memory.
+    /// The same for a mux that the active path goes through, by the parts of the paths that differ where they
+    /// join again. Takes no memory.
     fn verdict_met(&mut self, net: &Net, tree: &Tree, holds: &Holds, row: Branch) -> Verdict
         requires well_formed { IsNet net.now }
         requires holds { AreHolds net.now holds.now }
@@ -170,7 +173,8 @@ impl Judge {
         requires met { Contains (active_muxes net.now holds.now) row.mux }
         requires path { IsSome (active net.now holds.now) }
         requires ready { IsReady net.now holds.now self.old }
-        ensures verdict { result ≡ judged.verdict_of holds.now (route_of net.now holds.now) (stuck.stuck_route net.now row holds.now) }
+        ensures verdict { result ≡ judged.verdict_of holds.now (route_of net.now holds.now)
+            (stuck.stuck_route net.now row holds.now) }
         ensures ready { IsReady net.now holds.now self.new }
     {
         if self.detour.find(net, tree, holds, &self.known, row) {
@@ -184,14 +188,15 @@ impl Judge {
         }
     }
 
-    /// What a scan says of a row that no scan has told yet. A mux that the path doesn't go through, or that passes on the same
-    /// in this row, changes no path. Takes no memory.
+    /// What a scan says of a row that no scan has told yet. A mux that the path doesn't go through, or that
+    /// passes on the same in this row, changes no path. Takes no memory.
     fn verdict(&mut self, net: &Net, tree: &Tree, holds: &Holds, row: Branch) -> Verdict
         requires testable { IsTestable net.now tree.now }
         requires scannable { IsScannable net.now holds.now }
         requires row { IsBranchOf net.now row }
         requires ready { IsReady net.now holds.now self.old }
-        ensures verdict { result ≡ judged.verdict_of holds.now (route_of net.now holds.now) (stuck.stuck_route net.now row holds.now) }
+        ensures verdict { result ≡ judged.verdict_of holds.now (route_of net.now holds.now)
+            (stuck.stuck_route net.now row holds.now) }
         ensures ready { IsReady net.now holds.now self.new }
     {
         if is_passed(net, holds, &self.known, row) {
@@ -274,7 +279,8 @@ impl Judge {
         requires scannable { IsScannable net.now holds.now }
         requires rows { All (λ r. IsBranchOf net.now r.branch) rows.old.items }
         requires room { HasJudgeRoom net.now self.old }
-        requires alike { IsFalse changed → map (judged.judged_row net.now holds.now) rows.old.items ≡ rows.old.items }
+        requires alike { IsFalse changed
+            → map (judged.judged_row net.now holds.now) rows.old.items ≡ rows.old.items }
         ensures rows { rows.new.items ≡ map (judged.judged_row net.now holds.now) rows.old.items }
         ensures room { HasJudgeRoom net.now self.new }
     {
@@ -284,7 +290,8 @@ impl Judge {
     }
 }
 
-/// Judges rows at the beginning of each scan of a test. A scan that changes nothing isn't told from the next one: they begin alike.
+/// Judges rows at the beginning of each scan of a test. A scan that changes nothing isn't told from the next
+/// one: they begin alike.
 fn judge_scans(
     alloc: Global,
     net: &Net,
@@ -295,7 +302,8 @@ fn judge_scans(
     requires testable { IsTestable net.now tree.now }
     requires scans { AreFlushable net.now (start_holds net.now) (map seen_planned scans.now) }
     requires rows { All (λ r. IsBranchOf net.now r.branch) rows.old.items }
-    ensures { OnOk result (rows.new.items ≡ judged.judged_rows net.now (begins (start_holds net.now) (holds_after (start_holds net.now) (map seen_planned scans.now))) rows.old.items) }
+    ensures { OnOk result (rows.new.items ≡ judged.judged_rows net.now (begins (start_holds net.now)
+        (holds_after (start_holds net.now) (map seen_planned scans.now))) rows.old.items) }
 {
     let mut holds = Holds::power_up(alloc, net)?;
     let mut judge = Judge::new(alloc, net)?;
@@ -347,7 +355,8 @@ pub(crate) fn unseen_rows(
     requires testable { IsTestable net.now tree.now }
     requires branches { All (IsBranchOf net.now) branches.now }
     requires scans { AreFlushable net.now (start_holds net.now) (map seen_planned scans.now) }
-    ensures { IfOk result (λ unseen. unseen.items ≡ judged.unseen_rows net.now branches.now (begins (start_holds net.now) (holds_after (start_holds net.now) (map seen_planned scans.now)))) }
+    ensures { IfOk result (λ unseen. unseen.items ≡ judged.unseen_rows net.now branches.now
+        (begins (start_holds net.now) (holds_after (start_holds net.now) (map seen_planned scans.now)))) }
 {
     let mut rows = open_rows(alloc, branches)?;
     judge_scans(alloc, net, tree, scans, &mut rows)?;

@@ -9,7 +9,8 @@ use ij_bits::{List, OutOfMemory};
 use net_graph::{Holds, Net, RowTable};
 use std::alloc::Global;
 
-/// The row that each mux is in, noted at the beginning of a scan: each is looked for once then, however often it is asked for.
+/// The row that each mux is in, noted at the beginning of a scan: each is looked for once then, however often
+/// it is asked for.
 #[derive(Drop)]
 pub(crate) struct KnownRows {
     /// The rows of the network's muxes.

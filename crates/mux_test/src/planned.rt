@@ -1,5 +1,6 @@
 // The scans of a test, planned.
-ghost use Rattle.std.specs.Prelude.{◌≡◌, ◌+◌, ◌<◌, ◌≤◌, ◌∷◌, ◌++◌, ◌^◌, [], ℕ, drop, true, length, map, IfOk, OnOk, IsErrOf};
+ghost use Rattle.std.specs.Prelude.{◌≡◌, ◌+◌, ◌<◌, ◌≤◌, ◌∷◌, ◌++◌, ◌^◌, [], ℕ, drop, true, length, map, IfOk};
+ghost use Rattle.std.specs.Prelude.{OnOk, IsErrOf};
 ghost use Rattle.net_graph.specs.Nets.{IsNet};
 ghost use Rattle.net_tree.specs.ScanPlans.{seen_plan};
 ghost use Rattle.mux_test.specs.Laws.{IsTestable};
@@ -64,7 +65,8 @@ fn push_scans(
     plans: List<ScanPlan>,
     scans: &mut List<PlannedScan>,
 ) -> Result<(), OutOfMemory>
-    ensures { OnOk result (map seen_planned scans.new.items ≡ map seen_planned scans.old.items ++ row_planned branch true (map seen_plan plans.items)) }
+    ensures { OnOk result (map seen_planned scans.new.items
+        ≡ map seen_planned scans.old.items ++ row_planned branch true (map seen_plan plans.items)) }
 {
     let mut left = plans.into_vec();
     left.reverse();
@@ -80,7 +82,8 @@ fn push_scans(
     Ok(())
 }
 
-/// The scans of the test of these rows, which are all rows of the network's muxes. What is held and its route go on from row to row.
+/// The scans of the test of these rows, which are all rows of the network's muxes. What is held and its route
+/// go on from row to row.
 pub(crate) fn plan_test(
     alloc: Global,
     net: &Net,
@@ -91,7 +94,8 @@ pub(crate) fn plan_test(
     requires branches { branches.now ≡ test.branches net.now }
     ensures planned { IfOk result (λ scans. ArePlannedTest net.now tree.now (map seen_planned scans.items)) }
     ensures short { IfOk result (λ scans. length scans.items ≤ 8192) }
-    ensures limit { (number : ℕ) → IsErrOf result (fault.Limit number) → (number ≡ 8192) × (8192 < length (test.scanned net.now tree.now)) }
+    ensures limit { (number : ℕ) → IsErrOf result (fault.Limit number)
+        → (number ≡ 8192) × (8192 < length (test.scanned net.now tree.now)) }
 {
     let mut holds = Holds::power_up(alloc, net)?;
     let mut route = Route::new(alloc, net)?;

@@ -14,8 +14,10 @@ use path_names::put_mux_path;
 /// Writes the row of a line, and what ends it.
 #[tactic(auto, unfolding(ij_io::specs::Words::words_text))]
 fn put_row<K: Sink>(row: u32, k: &mut K) -> Result<(), StoreFault>
-    ensures whole { OnOk result (Adds (K.taken k.old) (K.taken k.new) (codes " row " ++ (decimal row ++ codes "\n"))) }
-    ensures part { OnErr result (AddsPart (K.taken k.old) (K.taken k.new) (codes " row " ++ (decimal row ++ codes "\n"))) }
+    ensures whole { OnOk result
+        (Adds (K.taken k.old) (K.taken k.new) (codes " row " ++ (decimal row ++ codes "\n"))) }
+    ensures part { OnErr result
+        (AddsPart (K.taken k.old) (K.taken k.new) (codes " row " ++ (decimal row ++ codes "\n"))) }
     ensures cause { HasCause (K.faults k.old) (K.faults k.new) result StoreFault.Failed }
 {
     put_words(
@@ -47,8 +49,10 @@ fn put_unseen<K: Sink>(net: &Net, branch: Branch, k: &mut K) -> Result<(), Store
 fn put_all_unseen<K: Sink>(net: &Net, unseen: &[Branch], k: &mut K) -> Result<(), StoreFault>
     requires well_formed { IsNet net.now }
     requires there { All (λ b. b.mux < length net.now.muxes.items) unseen.now }
-    ensures whole { OnOk result (Adds (K.taken k.old) (K.taken k.new) (flat_map (unseen_line net.now) unseen.now)) }
-    ensures part { OnErr result (AddsPart (K.taken k.old) (K.taken k.new) (flat_map (unseen_line net.now) unseen.now)) }
+    ensures whole { OnOk result
+        (Adds (K.taken k.old) (K.taken k.new) (flat_map (unseen_line net.now) unseen.now)) }
+    ensures part { OnErr result
+        (AddsPart (K.taken k.old) (K.taken k.new) (flat_map (unseen_line net.now) unseen.now)) }
     ensures cause { HasCause (K.faults k.old) (K.faults k.new) result StoreFault.Failed }
 {
     for row in unseen {
@@ -93,8 +97,10 @@ fn put_lines<K: Sink>(
 ) -> Result<(), StoreFault>
     requires well_formed { IsNet net.now }
     requires there { All (λ b. b.mux < length net.now.muxes.items) unseen.now }
-    ensures whole { OnOk result (Adds (K.taken k.old) (K.taken k.new) (report_lines net.now unseen.now scans rows)) }
-    ensures part { OnErr result (AddsPart (K.taken k.old) (K.taken k.new) (report_lines net.now unseen.now scans rows)) }
+    ensures whole { OnOk result
+        (Adds (K.taken k.old) (K.taken k.new) (report_lines net.now unseen.now scans rows)) }
+    ensures part { OnErr result
+        (AddsPart (K.taken k.old) (K.taken k.new) (report_lines net.now unseen.now scans rows)) }
     ensures cause { HasCause (K.faults k.old) (K.faults k.new) result StoreFault.Failed }
 {
     put_all_unseen(net, unseen, k)?;
@@ -102,11 +108,13 @@ fn put_lines<K: Sink>(
     Ok(())
 }
 
-/// Writes the lines of a test: `unseen PATH row Q` for each row that a multiplexer may be stuck in unseen, by the
-/// multiplexers' order in the network and then by row, and `muxtest scans N rows R unseen U`: how many scans the test has
-/// in all, how many rows all multiplexers have, and how many of these lines came before (IEEE 1687-2014, ICL: `ScanMux`).
+/// Writes the lines of a test: `unseen PATH row Q` for each row that a multiplexer may be stuck in unseen, by
+/// the multiplexers' order in the network and then by row, and `muxtest scans N rows R unseen U`: how many
+/// scans the test has in all, how many rows all multiplexers have, and how many of these lines came before
+/// (IEEE 1687-2014, ICL: `ScanMux`).
 ///
-/// The refusals are those of the sink, which then took some first bytes of the lines. It takes no memory itself.
+/// The refusals are those of the sink, which then took some first bytes of the lines. It takes no memory
+/// itself.
 pub fn put_test_report<'a, K: Sink>(
     net: &Net,
     test: &MuxTest<'a>,
@@ -114,8 +122,10 @@ pub fn put_test_report<'a, K: Sink>(
 ) -> Result<(), StoreFault>
     requires well_formed { IsNet net.now }
     requires there { All (λ b. b.mux < length net.now.muxes.items) test.now.unseen }
-    ensures whole { OnOk result (Adds (K.taken k.old) (K.taken k.new) (report_lines net.now test.now.unseen test.now.scan_count test.now.row_count)) }
-    ensures part { OnErr result (AddsPart (K.taken k.old) (K.taken k.new) (report_lines net.now test.now.unseen test.now.scan_count test.now.row_count)) }
+    ensures whole { OnOk result (Adds (K.taken k.old) (K.taken k.new)
+        (report_lines net.now test.now.unseen test.now.scan_count test.now.row_count)) }
+    ensures part { OnErr result (AddsPart (K.taken k.old) (K.taken k.new)
+        (report_lines net.now test.now.unseen test.now.scan_count test.now.row_count)) }
     ensures cause { HasCause (K.faults k.old) (K.faults k.new) result StoreFault.Failed }
 {
     let unseen = test.unseen().as_slice();

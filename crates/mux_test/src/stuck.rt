@@ -111,8 +111,8 @@ fn is_entry(at: Point) -> bool
     matches!(at, Point::Entry)
 }
 
-/// Leaves the registers of the active path in a list, nearest scan-out first, also where a mux is stuck in a row; and nothing
-/// where there is no path then. Takes no memory.
+/// Leaves the registers of the active path in a list, nearest scan-out first, also where a mux is stuck in a
+/// row; and nothing where there is no path then. Takes no memory.
 pub(crate) fn find_path(
     net: &Net,
     stuck: Option<Branch>,

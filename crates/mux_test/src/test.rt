@@ -1,5 +1,6 @@
 // The scans of a network's mux test, one after the other.
-ghost use Rattle.std.specs.Prelude.{◌≡◌, ◌<◌, ◌≤◌, [], ◌∷◌, ℕ, length, All, IfOk, IsErr, IsErrOf, IsNone, MatchOption, OnErr, OnOk};
+ghost use Rattle.std.specs.Prelude.{◌≡◌, ◌<◌, ◌≤◌, [], ◌∷◌, ℕ, length, All, IfOk, IsErr, IsErrOf, IsNone};
+ghost use Rattle.std.specs.Prelude.{MatchOption, OnErr, OnOk};
 ghost use Rattle.net_graph.specs.Held.{IsHeld};
 ghost use Rattle.net_graph.specs.Nets.{IsNet};
 ghost use Rattle.net_graph.specs.Writes.{write_all};
@@ -39,11 +40,11 @@ pub struct TestScan {
     pub scan: Command,
 }
 
-/// The test of a network's scan muxes: scans that take a marker through every row of every mux, from power-up on
-/// (IEEE 1687-2014: ScanMux; Serial Vector Format, revision E: SDR).
+/// The test of a network's scan muxes: scans that take a marker through every row of every mux, from power-up
+/// on (IEEE 1687-2014: ScanMux; Serial Vector Format, revision E: SDR).
 ///
-/// Contracts see the scans that are still to come, the rows that a mux may be stuck in unseen, and how many scans and rows
-/// there are in all.
+/// Contracts see the scans that are still to come, the rows that a mux may be stuck in unseen, and how many
+/// scans and rows there are in all.
 #[derive(Drop)]
 pub struct MuxTest<'a> {
     alloc: Global,
@@ -73,9 +74,17 @@ impl<'a> Model for MuxTest<'a> {
 
     ghost coded = { test_code };
 
-    ghost view = { λ t. record { scans = planned_flushes t.net.now t.holds (map seen_planned (drop t.given t.scans.items)); unseen = t.unseen.items; scan_count = length t.scans.items; row_count = t.rows } };
+    ghost view = { λ t. record {
+      scans =
+          planned_flushes t.net.now t.holds (map seen_planned (drop t.given t.scans.items));
+      unseen = t.unseen.items;
+      scan_count = length t.scans.items;
+      row_count = t.rows;
+    } };
 
-    ghost invariant = { λ t. IsTestable t.net.now t.tree.now × AreFlushable t.net.now t.holds (map seen_planned (drop t.given t.scans.items)) × IsHeldPath t.net.now t.holds t.path × HasPathRoom t.net.now t.path × (t.given ≤ length t.scans.items) };
+    ghost invariant = { λ t. IsTestable t.net.now t.tree.now × AreFlushable t.net.now t.holds
+        (map seen_planned (drop t.given t.scans.items)) × IsHeldPath t.net.now t.holds t.path
+        × HasPathRoom t.net.now t.path × (t.given ≤ length t.scans.items) };
 }
 
 /// The greatest number of bits that a flush has: a network has at most 4096 scan bits.
@@ -92,7 +101,8 @@ fn flush_of(
     requires well_formed { IsNet net.now }
     requires path { IsHeldPath net.now holds.now path.now }
     requires plan { CanScan net.now holds.now (seen_plan plan.now) }
-    ensures { IfOk result (λ c. seen_command c ≡ SDR (flush net.now holds.now (write_all holds.now plan.now.writes.items))) }
+    ensures { IfOk result (λ c. seen_command c
+        ≡ SDR (flush net.now holds.now (write_all holds.now plan.now.writes.items))) }
 {
     let mut tdi = Bits::with_room(alloc, FLUSH_BITS)?;
     let mut tdo = Bits::with_room(alloc, FLUSH_BITS)?;
@@ -139,7 +149,8 @@ impl<'a> MuxTest<'a> {
         ensures scan_count { IfOk result (λ t. t.scan_count ≡ length (scanned net.now tree.now)) }
         ensures row_count { IfOk result (λ t. t.row_count ≡ length (branches net.now)) }
         ensures within { OnOk result (IsWithinLimit net.now tree.now) }
-        ensures limit { (number : ℕ) → IsErrOf result (fault.Limit number) → (number ≡ 8192) × (8192 < length (scanned net.now tree.now)) }
+        ensures limit { (number : ℕ) → IsErrOf result (fault.Limit number)
+            → (number ≡ 8192) × (8192 < length (scanned net.now tree.now)) }
         ensures limited { 8192 < length (scanned net.now tree.now) → IsErr result }
     {
         let rows = branches_of(alloc, net)?;
@@ -162,7 +173,8 @@ impl<'a> MuxTest<'a> {
 
     /// The next scan, and `None` exactly after the last one. After a want of memory all is as it was.
     pub fn next(&mut self) -> Result<Option<TestScan>, OutOfMemory>
-        ensures gives { IfOk result (λ o. MatchOption o (self.old.scans ≡ []) (λ t. self.old.scans ≡ seen_test_scan t ∷ self.new.scans)) }
+        ensures gives { IfOk result (λ o. MatchOption o (self.old.scans ≡ [])
+            (λ t. self.old.scans ≡ seen_test_scan t ∷ self.new.scans)) }
         ensures end { IfOk result (λ o. IsNone o → self.new.scans ≡ []) }
         ensures others { self.new ≡ record self.old { scans = self.new.scans } }
         ensures stays { OnErr result (self.new ≡ self.old) }
@@ -188,7 +200,8 @@ impl<'a> MuxTest<'a> {
         Ok(Some(next))
     }
 
-    /// The rows that a mux may be stuck in unseen, by the muxes' numbers and then from row 0 up. Takes no memory.
+    /// The rows that a mux may be stuck in unseen, by the muxes' numbers and then from row 0 up. Takes no
+    /// memory.
     pub fn unseen(&self) -> &List<Branch>
         ensures { result.now.items ≡ self.now.unseen }
     {

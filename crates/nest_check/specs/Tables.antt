@@ -1,16 +1,18 @@
 -- The levels around all registers and muxes of a form, in tables that one pass over its marks fills.
-use Rattle.std.specs.Prelude.{ℕ, zero, suc, ◌+◌, Bool, true, false, cond, List, [], ◌∷◌, ◌++◌, length, replicate, reverse, slice_get, slice_set, Option, Some, None}
+use Rattle.std.specs.Prelude.{ℕ, zero, suc, ◌+◌, Bool, true, false, cond, List, [], ◌∷◌, ◌++◌, length}
+use Rattle.std.specs.Prelude.{replicate, reverse, slice_get, slice_set, Option, Some, None}
 use Rattle.net_graph.specs.declared.net.Net.{Net}
 use Rattle.net_graph.specs.declared.net.Point.{Point}
 use Rattle.net_graph.specs.declared.net.Point.TheVariants.{Entry, Reg, Mux}
 use Rattle.net_tree.specs.declared.mark.Mark.{Mark}
-use Rattle.net_tree.specs.declared.mark.Mark.TheVariants.{Reg as RegMark, Mux as MuxMark, Row as RowMark, End as EndMark}
+use Rattle.net_tree.specs.declared.mark.Mark.TheVariants.{Reg as RegMark, Mux as MuxMark, Row as RowMark}
+use Rattle.net_tree.specs.declared.mark.Mark.TheVariants.{End as EndMark}
 use Rattle.nest_check.specs.declared.place.Level.{Level}
 use Rattle.nest_check.specs.declared.tables.Around.{Around}
 use Rattle.nest_check.specs.declared.tables.Tables.{Tables}
 
--- the levels that were met have the numbers from 1 on. `here` is the innermost one around the marks at hand, 0 for none; a register or mux that
--- was named has the number of the one around it
+-- the levels that were met have the numbers from 1 on. `here` is the innermost one around the marks at hand,
+-- 0 for none; a register or mux that was named has the number of the one around it
 pub record Table : Type 0 where
   pub met : List Around
   pub here : ℕ
@@ -39,7 +41,12 @@ abbrev pub level : ℕ → ℕ → Level
 level mux begun = record { mux = mux; begun = begun }
 
 abbrev pub entered : Table → Level → ℕ → Table
-entered t l outer = record { met = t.met ++ record { level = l; outer = outer } ∷ []; here = length t.met + 1; regs = t.regs; muxes = t.muxes }
+entered t l outer = record {
+  met = t.met ++ record { level = l; outer = outer } ∷ [];
+  here = length t.met + 1;
+  regs = t.regs;
+  muxes = t.muxes;
+}
 
 -- the next row of the level at hand
 abbrev pub next_row : Table → Option Around → Table
@@ -67,7 +74,8 @@ pass t [] = t
 pass t (m ∷ ms) = pass (step t m) ms
 
 unfoldable pub nothing_named : ℕ → ℕ → Table
-nothing_named regs muxes = record { met = []; here = 0; regs = replicate regs None; muxes = replicate muxes None }
+nothing_named regs muxes =
+    record { met = []; here = 0; regs = replicate regs None; muxes = replicate muxes None }
 
 abbrev pub table : Net → List Mark → Table
 table net marks = pass (nothing_named (length net.regs.items) (length net.muxes.items)) marks

@@ -1,5 +1,5 @@
--- What the register bits of a network are used for: which of them select twice, and which drive an instrument, in flags that one pass over
--- all select bits and one over all inputs of instruments set.
+-- What the register bits of a network are used for: which of them select twice, and which drive an
+-- instrument, in flags that one pass over all select bits and one over all inputs of instruments set.
 use Rattle.std.specs.Prelude.{◌↔◌, Bool, true, false, List, flat_map, fold, IsFalse}
 use Rattle.net_graph.specs.Held.{set_hold, AreHolds}
 use Rattle.net_graph.specs.Resets.{zero_holds}

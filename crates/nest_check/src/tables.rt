@@ -53,7 +53,8 @@ impl Tables {
 
     /// Enters a level.
     fn enter(&mut self, level: Level, outer: usize) -> Result<(), OutOfMemory>
-        ensures { OnOk result (tables.table_of self.new ≡ tables.entered (tables.table_of self.old) level outer) }
+        ensures { OnOk result (tables.table_of self.new
+            ≡ tables.entered (tables.table_of self.old) level outer) }
     {
         self.met.push(Around { level, outer })?;
         self.here = self.met.len();
@@ -65,7 +66,8 @@ impl Tables {
         requires most { most < 2 ^ 64 - 1 }
         requires few { All (λ a. a.level.begun ≤ most) self.old.met.items }
         ensures few { OnOk result (All (λ a. a.level.begun ≤ most + 1) self.new.met.items) }
-        ensures table { OnOk result (tables.table_of self.new ≡ tables.next_row (tables.table_of self.old) (tables.around_at self.old.met.items self.old.here)) }
+        ensures table { OnOk result (tables.table_of self.new ≡ tables.next_row (tables.table_of self.old)
+            (tables.around_at self.old.met.items self.old.here)) }
     {
         if let Some(around) = self.around(self.here) {
             let level = Level {
@@ -121,7 +123,8 @@ impl Tables {
 
     /// The number of the level around an item that was named.
     fn number(&self, item: Point) -> Option<usize>
-        ensures { tables.levels_from self.now.met.items (Some result) ≡ tables.levels_from self.now.met.items (tables.number_of (tables.table_of self.now) item) }
+        ensures { tables.levels_from self.now.met.items (Some result)
+            ≡ tables.levels_from self.now.met.items (tables.number_of (tables.table_of self.now) item) }
     {
         match item {
             Point::Entry => None,
@@ -155,7 +158,8 @@ impl Tables {
 /// No mark is taken yet.
 #[tactic(auto, unfolding(crate::specs::Tables::nothing_named))]
 fn nothing_named(alloc: Global, net: &Net) -> Result<Tables, OutOfMemory>
-    ensures { IfOk result (λ t. tables.table_of t ≡ tables.nothing_named (length net.now.regs.items) (length net.now.muxes.items)) }
+    ensures { IfOk result (λ t. tables.table_of t
+        ≡ tables.nothing_named (length net.now.regs.items) (length net.now.muxes.items)) }
 {
     Ok(Tables {
         met: Vec::new(alloc),

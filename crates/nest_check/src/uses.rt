@@ -59,7 +59,8 @@ impl Selecting {
 /// Notes the select bits of all muxes.
 fn selected_bits(alloc: Global, net: &Net) -> Result<Selecting, OutOfMemory>
     requires { IsNet net.now }
-    ensures { IfOk result (λ s. uses.selected_of s ≡ uses.note_all (uses.no_flags net.now) (select_bits net.now)) }
+    ensures { IfOk result (λ s. uses.selected_of s
+        ≡ uses.note_all (uses.no_flags net.now) (select_bits net.now)) }
 {
     let mut selecting = Selecting {
         once: Holds::zeros(alloc, net)?,

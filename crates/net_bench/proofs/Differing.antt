@@ -1,9 +1,11 @@
 -- Compares that differ, of two parts of a play, and what is expected after a first bit.
-use Rattle.std.proofs.Common.{◌≡◌, ℕ, suc, Bool, true, false, cond, List, [], ◌∷◌, ◌++◌, drop, get_or, Option, None, refl, ap, ◌∙◌}
+use Rattle.std.proofs.Common.{◌≡◌, ℕ, suc, Bool, true, false, cond, List, [], ◌∷◌, ◌++◌, drop, get_or, Option}
+use Rattle.std.proofs.Common.{None, refl, ap, ◌∙◌}
 use Rattle.ij_bits.specs.BitLists.{same_bit}
 use Rattle.net_bench.specs.Playing.{Compare, differing}
 
-cond_both : (k : Bool) (c : Compare) (xs ys : List Compare) → cond k (xs ++ ys) (c ∷ (xs ++ ys)) ≡ cond k xs (c ∷ xs) ++ ys
+cond_both : (k : Bool) (c : Compare) (xs ys : List Compare)
+    → cond k (xs ++ ys) (c ∷ (xs ++ ys)) ≡ cond k xs (c ∷ xs) ++ ys
 cond_both true c xs ys = refl
 cond_both false c xs ys = refl
 

@@ -1,19 +1,27 @@
--- The laws of any bench as values: what other crates' proofs cite of plays. Each has the type that `specs/Laws` gives it.
-use Rattle.std.proofs.Common.{◌≡◌, ℕ, zero, suc, ◌+◌, ◌<◌, Bool, true, false, List, [], ◌∷◌, ◌++◌, length, Option, Some, None, refl, sym, ap, ◌∙◌, subst}
+-- The laws of any bench as values: what other crates' proofs cite of plays. Each has the type that
+-- `specs/Laws` gives it.
+use Rattle.std.proofs.Common.{◌≡◌, ℕ, zero, suc, ◌+◌, ◌<◌, Bool, true, false, List, [], ◌∷◌, ◌++◌, length}
+use Rattle.std.proofs.Common.{Option, Some, None, refl, sym, ap, ◌∙◌, subst}
 use Rattle.std.specs.Prelude.{replicate, map}
 use Rattle.std.proofs.lemmas.List.{append-nil, length-replicate}
 use Rattle.ij_bits.specs.BitLists.{bits_of}
 use Rattle.ij_bits.proofs.Lists.{none_below}
 use Rattle.ij_bits.proofs.WordBits.{length-bits_of}
-use Rattle.svf_writer.specs.SeenCommands.{SDR, SIR, SeenCommand, SeenScan, Reset as StateReset, Idle as StateIdle, Run as RunTest}
+use Rattle.svf_writer.specs.SeenCommands.{SDR, SIR, SeenCommand, SeenScan, Reset as StateReset}
+use Rattle.svf_writer.specs.SeenCommands.{Idle as StateIdle, Run as RunTest}
 use Rattle.svf_writer.specs.Written.{load_link}
 use Rattle.tap_machine.specs.declared.Pins.{Pins}
 use Rattle.tap_machine.specs.declared.Stable.{Stable}
 use Rattle.tap_machine.specs.declared.Stable.TheVariants.{Reset as InReset, Idle as InIdle}
 use Rattle.tap_machine.specs.declared.TapState.TheVariants.{RunTestIdle, TestLogicReset}
-use Rattle.tap_machine.specs.Play.{AreWhole, LastScan, Played, after_scan, expected, mask_now, no_scan, no_shift, pins, pins_with, played, rests_after, sdr_pins, shifts, sir_pins, to_idle}
+use Rattle.tap_machine.specs.Play.{AreWhole, LastScan, Played, after_scan, expected, mask_now, no_scan}
+use Rattle.tap_machine.specs.Play.{no_shift, pins, pins_with, played, rests_after, sdr_pins, shifts, sir_pins}
+use Rattle.tap_machine.specs.Play.{to_idle}
 use Rattle.net_bench.specs.Bench.{Chip, State, is_reset, power_up}
-use Rattle.net_bench.specs.Laws.{AnyInstructionLoads, AnyLongScanShifts, AnyPlaySplits, AnyResetResets, AnyRunWaits, AnyScanShifts, AreGiven, ExpectNothing, IdlesRest, IsShaped, IsShapedFirst, NothingIsCompared, PinsSplit, PlaysRest, PrefacesLink, ShapedIsReady, StaysShaped, loaded, ran, tap_of, was_reset}
+use Rattle.net_bench.specs.Laws.{AnyInstructionLoads, AnyLongScanShifts, AnyPlaySplits, AnyResetResets}
+use Rattle.net_bench.specs.Laws.{AnyRunWaits, AnyScanShifts, AreGiven, ExpectNothing, IdlesRest, IsShaped}
+use Rattle.net_bench.specs.Laws.{IsShapedFirst, NothingIsCompared, PinsSplit, PlaysRest, PrefacesLink}
+use Rattle.net_bench.specs.Laws.{ShapedIsReady, StaysShaped, loaded, ran, tap_of, was_reset}
 use Rattle.net_bench.specs.Playing.{after_pins, compares, play_from, resting}
 use Rattle.net_bench.proofs.Commanding.{bits_given}
 use Rattle.net_bench.proofs.Commands.{leaves_reset, reset_at_power_up, reset_resets, run_runs, scan_loads}
@@ -48,17 +56,23 @@ module _ {L : Type 0} where
   pub scans_shift : AnyScanShifts L
   scans_shift chip scans scan bits s ready given some fits =
       let es = (played no_scan scan).expects in
-      let ps : pins (resting s) scans (SDR scan ∷ []) ≡ sdr_pins (suc scans) (record { tdi = bits; expects = es }) =
-      ap (λ r. pins r scans (SDR scan ∷ [])) (rests_as InIdle s ready.idle) ∙ append-nil (sdr_pins (suc scans) (played no_scan scan)) ∙ ap (sdr_pins (suc scans)) (bits_given scan bits given) in (
+      let ps : pins (resting s) scans (SDR scan ∷ [])
+      ≡ sdr_pins (suc scans) (record { tdi = bits; expects = es }) =
+      ap (λ r. pins r scans (SDR scan ∷ [])) (rests_as InIdle s ready.idle)
+      ∙ append-nil (sdr_pins (suc scans) (played no_scan scan))
+      ∙ ap (sdr_pins (suc scans)) (bits_given scan bits given) in (
         ap (λ q. after_pins chip q s) ps ∙ scan_exchanges_bits chip (suc scans) bits es s ready some fits,
         ap (λ q. compares chip q s) ps ∙ scan_finds_bits chip (suc scans) bits es s ready some fits,
       )
 
   pub scans_of_any_length : AnyLongScanShifts L
-  scans_of_any_length chip scans scan bits s ready given some =
-      (long_plays chip scans scan bits s ready given some, long_compares chip scans scan bits s ready given some)
+  scans_of_any_length chip scans scan bits s ready given some = (
+    long_plays chip scans scan bits s ready given some,
+    long_compares chip scans scan bits s ready given some,
+  )
 
-  load_bits : (chip : Chip L) (scan : ℕ) (bits : List Bool) (es : List (Option Bool)) (s : State L) → s.tap ≡ RunTestIdle → 0 < length bits → length bits ≡ length s.ir_stage
+  load_bits : (chip : Chip L) (scan : ℕ) (bits : List Bool) (es : List (Option Bool)) (s : State L)
+      → s.tap ≡ RunTestIdle → 0 < length bits → length bits ≡ length s.ir_stage
       → after_pins chip (sir_pins scan (record { tdi = bits; expects = es })) s ≡ loaded chip s bits
   load_bits chip scan [] es s idle some fits = absurd (none_below some)
   load_bits chip scan (t ∷ ts) es s idle some fits = scan_loads chip scan t ts es s idle fits
@@ -67,7 +81,8 @@ module _ {L : Type 0} where
   instructions_load chip scans scan bits s idle given some fits =
       let es = (played no_scan scan).expects in
       ap (λ r. after_pins chip (pins r scans (SIR scan ∷ [])) s) (rests_as InIdle s idle)
-      ∙ ap (λ q. after_pins chip q s) (append-nil (sir_pins (suc scans) (played no_scan scan)) ∙ ap (sir_pins (suc scans)) (bits_given scan bits given))
+      ∙ ap (λ q. after_pins chip q s) (append-nil (sir_pins (suc scans) (played no_scan scan))
+      ∙ ap (sir_pins (suc scans)) (bits_given scan bits given))
       ∙ load_bits chip (suc scans) bits es s idle some fits
 
   pub runs_wait : AnyRunWaits L
@@ -81,9 +96,11 @@ module _ {L : Type 0} where
 
   pub idles_rest : IdlesRest L
   idles_rest chip scans InReset s e =
-      ap (λ r. after_pins chip (pins r scans (StateIdle ∷ [])) s) (rests_as InReset s e) ∙ leaves_reset chip s e
+      ap (λ r. after_pins chip (pins r scans (StateIdle ∷ [])) s)
+      (rests_as InReset s e) ∙ leaves_reset chip s e
   idles_rest chip scans InIdle s e =
-      ap (λ r. after_pins chip (pins r scans (StateIdle ∷ [])) s) (rests_as InIdle s e) ∙ ap (λ t. record s { tap = t }) e
+      ap (λ r. after_pins chip (pins r scans (StateIdle ∷ [])) s) (rests_as InIdle s e)
+      ∙ ap (λ t. record s { tap = t }) e
 
   -- ---- several
 
@@ -91,32 +108,40 @@ module _ {L : Type 0} where
   pins_split chip first rest s = (after_pins-append chip first rest s, compares-append chip first rest s)
 
   pub plays_split : AnyPlaySplits L
-  plays_split chip scans first rest s whole rests =
-      (play-append chip first rest scans s whole rests, compares_from-append chip first rest scans s whole rests)
+  plays_split chip scans first rest s whole rests = (
+    play-append chip first rest scans s whole rests,
+    compares_from-append chip first rest scans s whole rests,
+  )
 
   -- the link's instruction, after a reset
-  linked : (chip : Chip L) (scans : ℕ) (s after : State L) → 0 < chip.device.ir → after.tap ≡ TestLogicReset → length after.ir_stage ≡ chip.device.ir → play_from chip scans (StateReset ∷ []) s ≡ after
-      → play_from chip scans (StateReset ∷ StateIdle ∷ load_link chip.device ∷ []) s ≡ loaded chip after (bits_of chip.device.ir chip.device.opcode)
+  linked : (chip : Chip L) (scans : ℕ) (s after : State L) → 0 < chip.device.ir → after.tap ≡ TestLogicReset
+      → length after.ir_stage ≡ chip.device.ir → play_from chip scans (StateReset ∷ []) s ≡ after
+      → play_from chip scans (StateReset ∷ StateIdle ∷ load_link chip.device ∷ []) s
+      ≡ loaded chip after (bits_of chip.device.ir chip.device.opcode)
   linked chip scans s after some tap long reset =
       let opcode = bits_of chip.device.ir chip.device.opcode in
-      let link : SeenScan = record { len = chip.device.ir; tdi = Some opcode; tdo = None; mask = None; smask = None } in
+      let link : SeenScan =
+      record { len = chip.device.ir; tdi = Some opcode; tdo = None; mask = None; smask = None } in
       let load = SIR link ∷ [] in
       let idle : State L = record after { tap = RunTestIdle } in
       let whole : AreWhole load = (((opcode, refl), tt), tt) in
       let wide : length opcode ≡ chip.device.ir = length-bits_of chip.device.ir chip.device.opcode in
       let idles = idles_rest chip (scans + 0) InReset after tap in
-      let in_reset : resting (play_from chip scans (StateReset ∷ []) s) ≡ InReset = ap resting reset ∙ rests_as InReset after tap in
+      let in_reset : resting (play_from chip scans (StateReset ∷ []) s)
+      ≡ InReset = ap resting reset ∙ rests_as InReset after tap in
       let in_idle : resting (play_from chip (scans + 0) (StateIdle ∷ []) after) ≡ InIdle = ap resting idles in
       (plays_split chip scans (StateReset ∷ []) (StateIdle ∷ load) s (tt, whole) in_reset).0
       ∙ ap (play_from chip (scans + 0) (StateIdle ∷ load)) reset
       ∙ (plays_split chip (scans + 0) (StateIdle ∷ []) load after whole in_idle).0
       ∙ ap (play_from chip ((scans + 0) + 0) load) idles
-      ∙ instructions_load chip ((scans + 0) + 0) link opcode idle refl refl (subst (λ k. 0 < k) (sym wide) some) (wide ∙ sym long)
+      ∙ instructions_load chip ((scans + 0) + 0) link opcode idle refl refl
+      (subst (λ k. 0 < k) (sym wide) some) (wide ∙ sym long)
 
   pub prefaces_link : PrefacesLink L
   prefaces_link chip scans some = (
     λ s idle long. linked chip scans s (was_reset chip s) some refl long ((resets_reset chip scans).0 s idle),
-    linked chip scans (power_up chip) (power_up chip) some refl (length-replicate chip.device.ir false) (resets_reset chip scans).1,
+    linked chip scans (power_up chip) (power_up chip) some refl
+        (length-replicate chip.device.ir false) (resets_reset chip scans).1,
   )
 
   pub plays_rest : PlaysRest L
@@ -126,7 +151,8 @@ module _ {L : Type 0} where
   -- ---- compares
 
   module _ (chip : Chip L) where
-    none_then : (ps qs : List Pins) (s : State L) → compares chip ps s ≡ [] → compares chip qs (after_pins chip ps s) ≡ [] → compares chip (ps ++ qs) s ≡ []
+    none_then : (ps qs : List Pins) (s : State L) → compares chip ps s ≡ []
+        → compares chip qs (after_pins chip ps s) ≡ [] → compares chip (ps ++ qs) s ≡ []
     none_then ps qs s e f =
         compares-append chip ps qs s ∙ ap (λ l. l ++ compares chip qs (after_pins chip ps s)) e ∙ f
 
@@ -144,28 +170,40 @@ module _ {L : Type 0} where
 
     -- a scan between clocks that shift nothing
     scan_none : (scan : ℕ) (before : List Bool) (kept : LastScan) (x : SeenScan) (s : State L) → x.tdo ≡ None
-        → compares chip (map no_shift before ++ (shifts scan 0 (played kept x).tdi (played kept x).expects ++ map no_shift (true ∷ false ∷ []))) s ≡ []
+        → compares chip (map no_shift before ++ (shifts scan 0 (played kept x).tdi (played kept x).expects
+        ++ map no_shift (true ∷ false ∷ []))) s ≡ []
     scan_none scan before kept x s e =
         let ts = (played kept x).tdi in
         let s1 = after_pins chip (map no_shift before) s in
-        let shifted : compares chip (shifts scan 0 ts (played kept x).expects) s1 ≡ [] = ap (λ o. compares chip (shifts scan 0 ts (expected x.len o (mask_now kept x))) s1) e ∙ shifts_compare_nothing chip ts x.len scan 0 s1 in
-        none_then (map no_shift before) _ s (clocks_none before s) (none_then (shifts scan 0 ts (played kept x).expects) (map no_shift (true ∷ false ∷ [])) s1 shifted (clocks_none (true ∷ false ∷ []) (after_pins chip (shifts scan 0 ts (played kept x).expects) s1)))
+        let shifted : compares chip (shifts scan 0 ts (played kept x).expects) s1
+        ≡ [] = ap (λ o. compares chip (shifts scan 0 ts (expected x.len o (mask_now kept x))) s1) e
+        ∙ shifts_compare_nothing chip ts x.len scan 0 s1 in
+        none_then (map no_shift before) _ s (clocks_none before s) (none_then
+        (shifts scan 0 ts (played kept x).expects) (map no_shift (true ∷ false ∷ [])) s1 shifted
+        (clocks_none (true ∷ false ∷ []) (after_pins chip (shifts scan 0 ts (played kept x).expects) s1)))
 
-    all_none : (ir dr : LastScan) (from : Stable) (scans : ℕ) (commands : List SeenCommand) (s : State L) → ExpectNothing commands → compares chip (pins_with ir dr from scans commands) s ≡ []
+    all_none : (ir dr : LastScan) (from : Stable) (scans : ℕ) (commands : List SeenCommand) (s : State L)
+        → ExpectNothing commands → compares chip (pins_with ir dr from scans commands) s ≡ []
     all_none ir dr from scans [] s n = refl
     all_none ir dr from scans (SIR x ∷ cs) s n =
         let s1 = after_pins chip (to_idle from) s in
-        none_then (to_idle from) _ s (idle_none from s) (none_then (sir_pins (suc scans) (played ir x)) _ s1 (scan_none (suc scans) (true ∷ true ∷ false ∷ false ∷ []) ir x s1 n.0) (all_none (after_scan ir x) dr InIdle (suc scans) cs _ n.1))
+        none_then (to_idle from) _ s (idle_none from s) (none_then (sir_pins (suc scans) (played ir x)) _ s1
+        (scan_none (suc scans) (true ∷ true ∷ false ∷ false ∷ []) ir x s1 n.0)
+        (all_none (after_scan ir x) dr InIdle (suc scans) cs _ n.1))
     all_none ir dr from scans (SDR x ∷ cs) s n =
         let s1 = after_pins chip (to_idle from) s in
-        none_then (to_idle from) _ s (idle_none from s) (none_then (sdr_pins (suc scans) (played dr x)) _ s1 (scan_none (suc scans) (true ∷ false ∷ false ∷ []) dr x s1 n.0) (all_none ir (after_scan dr x) InIdle (suc scans) cs _ n.1))
+        none_then (to_idle from) _ s (idle_none from s) (none_then (sdr_pins (suc scans) (played dr x)) _ s1
+        (scan_none (suc scans) (true ∷ false ∷ false ∷ []) dr x s1 n.0)
+        (all_none ir (after_scan dr x) InIdle (suc scans) cs _ n.1))
     all_none ir dr from scans (StateReset ∷ cs) s n =
-        none_then (replicate 5 (no_shift true)) (pins_with ir dr InReset scans cs) s (run_none 5 true s) (all_none ir dr InReset scans cs (after_pins chip (replicate 5 (no_shift true)) s) n)
+        none_then (replicate 5 (no_shift true)) (pins_with ir dr InReset scans cs) s (run_none 5 true s)
+        (all_none ir dr InReset scans cs (after_pins chip (replicate 5 (no_shift true)) s) n)
     all_none ir dr from scans (StateIdle ∷ cs) s n =
         none_then (to_idle from) _ s (idle_none from s) (all_none ir dr InIdle scans cs _ n)
     all_none ir dr from scans (RunTest k ∷ cs) s n =
         let s1 = after_pins chip (to_idle from) s in
-        none_then (to_idle from) _ s (idle_none from s) (none_then (replicate k (no_shift false)) _ s1 (run_none k false s1) (all_none ir dr InIdle scans cs _ n))
+        none_then (to_idle from) _ s (idle_none from s) (none_then (replicate k (no_shift false)) _ s1
+        (run_none k false s1) (all_none ir dr InIdle scans cs _ n))
 
   pub nothing_is_compared : NothingIsCompared L
   nothing_is_compared chip scans commands s n = all_none chip no_scan no_scan (resting s) scans commands s n

@@ -1,4 +1,5 @@
--- That a bench which counts the events of its instruments does as one that keeps the list of them, whatever the machines.
+-- That a bench which counts the events of its instruments does as one that keeps the list of them, whatever
+-- the machines.
 use Rattle.std.specs.Prelude.{◌≡◌, ℕ, Bool, List, map}
 use Rattle.net_graph.specs.declared.device.Device.{Device}
 use Rattle.net_graph.specs.declared.net.Net.{Net}
@@ -22,31 +23,47 @@ tallied x = record { inner = x.inner; log = tally x.log }
 
 abbrev pub with_counts : State (List Event) → State Counts
 with_counts s =
-    record { tap = s.tap; ir_stage = s.ir_stage; ir_hold = s.ir_hold; bypass = s.bypass; identity = s.identity; stages = s.stages; holds = s.holds; insts = map tallied s.insts }
+    record {
+      tap = s.tap;
+      ir_stage = s.ir_stage;
+      ir_hold = s.ir_hold;
+      bypass = s.bypass;
+      identity = s.identity;
+      stages = s.stages;
+      holds = s.holds;
+      insts = map tallied s.insts;
+    }
 
 -- at power-up
 abbrev pub CountsBegin : Type 0
 CountsBegin =
-    (net : Net) (device : Device) (machines : List Machine) → power_up (counting net device machines) ≡ with_counts (power_up (listing net device machines))
+    (net : Net) (device : Device) (machines : List Machine)
+    → power_up (counting net device machines) ≡ with_counts (power_up (listing net device machines))
 
 -- TDO
 abbrev pub CountsShow : Type 0
 CountsShow =
-    (net : Net) (device : Device) (machines : List Machine) (s : State (List Event)) → tdo (counting net device machines) (with_counts s) ≡ tdo (listing net device machines) s
+    (net : Net) (device : Device) (machines : List Machine) (s : State (List Event))
+    → tdo (counting net device machines) (with_counts s) ≡ tdo (listing net device machines) s
 
 -- one clock
 abbrev pub CountsMove : Type 0
 CountsMove =
     (net : Net) (device : Device) (machines : List Machine) (tms tdi : Bool) (s : State (List Event))
-    → clock (counting net device machines) tms tdi (with_counts s) ≡ with_counts (clock (listing net device machines) tms tdi s)
+    → clock (counting net device machines) tms tdi (with_counts s)
+    ≡ with_counts (clock (listing net device machines) tms tdi s)
 
 -- a play of SVF commands after some scans, and what it compares
 abbrev pub CountsPlay : Type 0
 CountsPlay =
-    (net : Net) (device : Device) (machines : List Machine) (scans : ℕ) (commands : List SeenCommand) (s : State (List Event))
-    → play_from (counting net device machines) scans commands (with_counts s) ≡ with_counts (play_from (listing net device machines) scans commands s)
+    (net : Net) (device : Device) (machines : List Machine) (scans : ℕ)
+    (commands : List SeenCommand) (s : State (List Event))
+    → play_from (counting net device machines) scans commands (with_counts s)
+    ≡ with_counts (play_from (listing net device machines) scans commands s)
 
 abbrev pub CountsCompare : Type 0
 CountsCompare =
-    (net : Net) (device : Device) (machines : List Machine) (scans : ℕ) (commands : List SeenCommand) (s : State (List Event))
-    → compares_from (counting net device machines) scans commands (with_counts s) ≡ compares_from (listing net device machines) scans commands s
+    (net : Net) (device : Device) (machines : List Machine) (scans : ℕ)
+    (commands : List SeenCommand) (s : State (List Event))
+    → compares_from (counting net device machines) scans commands (with_counts s)
+    ≡ compares_from (listing net device machines) scans commands s

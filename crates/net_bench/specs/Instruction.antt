@@ -1,5 +1,5 @@
--- What the instruction register selects, captures and takes at reset (IEEE 1149.1-2013, clauses 7, 8, 10 and 12:
--- instruction register, BYPASS and IDCODE, bypass register, device identification register).
+-- What the instruction register selects, captures and takes at reset (IEEE 1149.1-2013, clauses 7, 8, 10 and
+-- 12: instruction register, BYPASS and IDCODE, bypass register, device identification register).
 use Rattle.std.specs.Prelude.{ℕ, zero, suc, Bool, true, false, List, [], ◌∷◌, replicate, Some, None}
 use Rattle.ij_bits.specs.BitLists.{bits_eq, bits_of}
 use Rattle.net_graph.specs.declared.device.Device.{Device}
@@ -20,12 +20,16 @@ abbrev pub identity_value : Device → List Bool
 identity_value device = elim device.idcode [ Some id ↦ bits_of 32 id.0 | None ↦ bits_of 32 0 ]
 
 abbrev pub selects_identity : Device → List Bool → Bool
-selects_identity device ir = elim device.idcode [ Some id ↦ bits_eq ir (bits_of device.ir id.1) | None ↦ false ]
+selects_identity device ir =
+    elim device.idcode [ Some id ↦ bits_eq ir (bits_of device.ir id.1) | None ↦ false ]
 
 -- the link's opcode selects the network, the identity opcode the identity register, every other value bypass
 abbrev pub selected : Device → List Bool → Selected
 selected device ir =
-    elim (bits_eq ir (bits_of device.ir device.opcode)) [ true ↦ Network | false ↦ elim (selects_identity device ir) [ true ↦ Identity | false ↦ Bypass ] ]
+    elim (bits_eq ir (bits_of device.ir device.opcode)) [
+      | true ↦ Network
+      | false ↦ elim (selects_identity device ir) [ true ↦ Identity | false ↦ Bypass ]
+    ]
 
 -- Capture-IR loads 1 at position 0 and 0 elsewhere
 abbrev pub capture_ir : ℕ → List Bool

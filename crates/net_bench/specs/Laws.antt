@@ -1,5 +1,5 @@
--- What one SVF command does to the bench, whatever the network, its path and its instruments (Serial Vector Format,
--- revision E: SDR, SIR, RUNTEST and STATE; IEEE 1149.1-2013, clauses 6 to 10).
+-- What one SVF command does to the bench, whatever the network, its path and its instruments (Serial Vector
+-- Format, revision E: SDR, SIR, RUNTEST and STATE; IEEE 1149.1-2013, clauses 6 to 10).
 use Rattle.std.specs.Prelude.{◌≡◌, ◌+◌, ◌<◌, ℕ, zero, suc, Bool, List, [], ◌∷◌, ◌++◌, None, Some, length, map}
 use Rattle.ij_bits.specs.BitLists.{bits_of}
 use Rattle.instruments.specs.Machine.{Event, Run, Reset}
@@ -8,7 +8,8 @@ use Rattle.net_graph.specs.declared.net.Net.{Net}
 use Rattle.net_graph.specs.Chain.{IsRoute, captures, chain, put_chain, shifted, shifted_out}
 use Rattle.net_graph.specs.Resets.{reset_holds}
 use Rattle.net_graph.specs.Signals.{Holds}
-use Rattle.svf_writer.specs.SeenCommands.{SDR, SIR, SeenCommand, SeenScan, Reset as StateReset, Idle as StateIdle, Run as RunTest}
+use Rattle.svf_writer.specs.SeenCommands.{SDR, SIR, SeenCommand, SeenScan, Reset as StateReset}
+use Rattle.svf_writer.specs.SeenCommands.{Idle as StateIdle, Run as RunTest}
 use Rattle.svf_writer.specs.Written.{preface_commands}
 use Rattle.tap_machine.specs.declared.Pins.{Pins}
 use Rattle.tap_machine.specs.declared.Stable.{Stable}
@@ -55,18 +56,28 @@ module _ {L : Type 0} (chip : Chip L) where
   abbrev pub captured : State L → List Bool
   captured s = captures chip.net (outputs chip.machines s.insts) s.holds (chip.path s.holds)
 
-  -- the state after these bits were shifted into the registers of the path and took effect, with the events of the
-  -- instruments that they change
+  -- the state after these bits were shifted into the registers of the path and took effect, with the events
+  -- of the instruments that they change
   abbrev pub exchanged : State L → List Bool → State L
   exchanged s bits =
       let after = put_chain (chip.path s.holds) bits s.holds in
-      record s { tap = RunTestIdle; stages = put_chain (chip.path s.holds) bits s.stages; holds = after; insts = changes chip.log chip.net chip.machines s.holds after s.insts }
+      record s {
+        tap = RunTestIdle;
+        stages = put_chain (chip.path s.holds) bits s.stages;
+        holds = after;
+        insts = changes chip.log chip.net chip.machines s.holds after s.insts;
+      }
 
   -- the same where the bits are those that the path has in `after`, and no other register differs there
   abbrev pub stepped : State L → Holds → State L
   stepped s after =
       let path = chip.path s.holds in
-      record s { tap = RunTestIdle; stages = put_chain path (chain path after) s.stages; holds = after; insts = changes chip.log chip.net chip.machines s.holds after s.insts }
+      record s {
+        tap = RunTestIdle;
+        stages = put_chain path (chain path after) s.stages;
+        holds = after;
+        insts = changes chip.log chip.net chip.machines s.holds after s.insts;
+      }
 
   -- each register of the network has its bits, and so has the instruction register
   pub record IsShaped (s : State L) : Type 0 where
@@ -74,8 +85,8 @@ module _ {L : Type 0} (chip : Chip L) where
     pub holds : map length s.holds ≡ map (λ reg. reg.width) chip.net.regs.items
     pub ir : length s.ir_stage ≡ chip.device.ir
 
-  -- what a data scan of the network needs of the state: rest in Run-Test/Idle, the network selected, a path of different
-  -- registers, and as many capture signals as bits
+  -- what a data scan of the network needs of the state: rest in Run-Test/Idle, the network selected, a path
+  -- of different registers, and as many capture signals as bits
   pub record Ready (s : State L) : Type 0 where
     pub idle : s.tap ≡ RunTestIdle
     pub network : select_of chip s ≡ Network
@@ -95,27 +106,35 @@ module _ {L : Type 0} (chip : Chip L) where
   abbrev pub was_reset : State L → State L
   was_reset s =
       let after = reset_holds chip.net s.holds in
-      record s { tap = TestLogicReset; holds = after; ir_hold = reset_instruction chip.device; insts = all_have chip.log chip.net chip.machines Reset after s.insts }
+      record s {
+        tap = TestLogicReset;
+        holds = after;
+        ir_hold = reset_instruction chip.device;
+        insts = all_have chip.log chip.net chip.machines Reset after s.insts;
+      }
 
 -- What holds of each bench, whatever it keeps of an instrument's events.
 module _ (L : Type 0) where
-  -- A data scan of as many bits as the path has: the registers capture, each captured bit is compared with what is expected
-  -- of it, the scan's bits come to stand in the registers, and they take effect.
+  -- A data scan of as many bits as the path has: the registers capture, each captured bit is compared with
+  -- what is expected of it, the scan's bits come to stand in the registers, and they take effect.
   abbrev pub AnyScanShifts : Type 0
   AnyScanShifts =
       (chip : Chip L) (scans : ℕ) (scan : SeenScan) (bits : List Bool) (s : State L)
       → Ready chip s → scan.tdi ≡ Some bits → 0 < length bits → length bits ≡ length (captured chip s)
       → (play_from chip scans (SDR scan ∷ []) s ≡ exchanged chip s bits)
-      × (compares_from chip scans (SDR scan ∷ []) s ≡ scan_compares (suc scans) 0 (played no_scan scan).expects (captured chip s))
+      × (compares_from chip scans (SDR scan ∷ []) s
+      ≡ scan_compares (suc scans) 0 (played no_scan scan).expects (captured chip s))
 
-  -- A data scan of any length: the registers capture, the scan's bits are shifted through them, each bit that comes out is
-  -- compared with what is expected of it, and what stands in the registers at the end takes effect.
+  -- A data scan of any length: the registers capture, the scan's bits are shifted through them, each bit that
+  -- comes out is compared with what is expected of it, and what stands in the registers at the end takes
+  -- effect.
   abbrev pub AnyLongScanShifts : Type 0
   AnyLongScanShifts =
       (chip : Chip L) (scans : ℕ) (scan : SeenScan) (bits : List Bool) (s : State L)
       → Ready chip s → scan.tdi ≡ Some bits → 0 < length bits
       → (play_from chip scans (SDR scan ∷ []) s ≡ exchanged chip s (shifted (captured chip s) bits))
-      × (compares_from chip scans (SDR scan ∷ []) s ≡ scan_compares (suc scans) 0 (played no_scan scan).expects (shifted_out (captured chip s) bits))
+      × (compares_from chip scans (SDR scan ∷ []) s
+      ≡ scan_compares (suc scans) 0 (played no_scan scan).expects (shifted_out (captured chip s) bits))
 
   -- An instruction scan of as many bits as the instruction register has: they are the instruction.
   abbrev pub AnyInstructionLoads : Type 0
@@ -130,48 +149,57 @@ module _ (L : Type 0) where
       (chip : Chip L) (scans n : ℕ) (s : State L)
       → s.tap ≡ RunTestIdle → play_from chip scans (RunTest n ∷ []) s ≡ ran chip n s
 
-  -- A reset from Run-Test/Idle: bits with a reset value take it, the reset instruction is selected, and each instrument has
-  -- one reset. At power-up a reset changes nothing.
+  -- A reset from Run-Test/Idle: bits with a reset value take it, the reset instruction is selected, and each
+  -- instrument has one reset. At power-up a reset changes nothing.
   abbrev pub AnyResetResets : Type 0
   AnyResetResets =
       (chip : Chip L) (scans : ℕ)
       → ((s : State L) → s.tap ≡ RunTestIdle → play_from chip scans (StateReset ∷ []) s ≡ was_reset chip s)
       × (play_from chip scans (StateReset ∷ []) (power_up chip) ≡ power_up chip)
 
-  -- STATE IDLE, and with it each command that isn't a reset, first takes the controller to Run-Test/Idle, with no event.
+  -- STATE IDLE, and with it each command that isn't a reset, first takes the controller to Run-Test/Idle,
+  -- with no event.
   abbrev pub IdlesRest : Type 0
   IdlesRest =
       (chip : Chip L) (scans : ℕ) (from : Stable) (s : State L)
       → s.tap ≡ tap_of from → play_from chip scans (StateIdle ∷ []) s ≡ record s { tap = RunTestIdle }
 
-  -- The preface of an SVF, from Run-Test/Idle and from power-up: a reset, and the link's instruction is loaded.
+  -- The preface of an SVF, from Run-Test/Idle and from power-up: a reset, and the link's instruction is
+  -- loaded.
   abbrev pub PrefacesLink : Type 0
   PrefacesLink =
       (chip : Chip L) (scans : ℕ) → 0 < chip.device.ir
       → ((s : State L) → s.tap ≡ RunTestIdle → length s.ir_stage ≡ chip.device.ir
-      → play_from chip scans (preface_commands chip.device) s ≡ loaded chip (was_reset chip s) (bits_of chip.device.ir chip.device.opcode))
-      × (play_from chip scans (preface_commands chip.device) (power_up chip) ≡ loaded chip (power_up chip) (bits_of chip.device.ir chip.device.opcode))
+      → play_from chip scans (preface_commands chip.device) s
+      ≡ loaded chip (was_reset chip s) (bits_of chip.device.ir chip.device.opcode))
+      × (play_from chip scans (preface_commands chip.device) (power_up chip)
+      ≡ loaded chip (power_up chip) (bits_of chip.device.ir chip.device.opcode))
 
-  -- A play of commands is the play of the first of them, and then of the others, whose scans rest on no earlier one.
+  -- A play of commands is the play of the first of them, and then of the others, whose scans rest on no
+  -- earlier one.
   abbrev pub AnyPlaySplits : Type 0
   AnyPlaySplits =
       (chip : Chip L) (scans : ℕ) (first rest : List SeenCommand) (s : State L)
       → AreWhole rest → resting (play_from chip scans first s) ≡ rests_after (resting s) first
-      → (play_from chip scans (first ++ rest) s ≡ play_from chip (scans + scans_in first) rest (play_from chip scans first s))
-      × (compares_from chip scans (first ++ rest) s ≡ compares_from chip scans first s ++ compares_from chip (scans + scans_in first) rest (play_from chip scans first s))
+      → (play_from chip scans (first ++ rest) s
+      ≡ play_from chip (scans + scans_in first) rest (play_from chip scans first s))
+      × (compares_from chip scans (first ++ rest) s ≡ compares_from chip scans first s
+      ++ compares_from chip (scans + scans_in first) rest (play_from chip scans first s))
 
   -- And so it is clock by clock, whatever the pins are.
   abbrev pub PinsSplit : Type 0
   PinsSplit =
       (chip : Chip L) (first rest : List Pins) (s : State L)
       → (after_pins chip (first ++ rest) s ≡ after_pins chip rest (after_pins chip first s))
-      × (compares chip (first ++ rest) s ≡ compares chip first s ++ compares chip rest (after_pins chip first s))
+      × (compares chip (first ++ rest) s
+      ≡ compares chip first s ++ compares chip rest (after_pins chip first s))
 
   -- A play rests where its commands lead.
   abbrev pub PlaysRest : Type 0
   PlaysRest =
       (chip : Chip L) (scans : ℕ) (commands : List SeenCommand) (from : Stable) (s : State L)
-      → s.tap ≡ tap_of from → AreGiven commands → resting (play_from chip scans commands s) ≡ rests_after from commands
+      → s.tap ≡ tap_of from → AreGiven commands
+      → resting (play_from chip scans commands s) ≡ rests_after from commands
 
   -- Where nothing is expected, nothing is compared.
   abbrev pub NothingIsCompared : Type 0
@@ -193,7 +221,8 @@ module _ (L : Type 0) where
   abbrev pub ShapedIsReady : Type 0
   ShapedIsReady =
       (chip : Chip L) (s : State L)
-      → CapturesAll chip.net → IsShaped chip s → s.tap ≡ RunTestIdle → select_of chip s ≡ Network → IsRoute (length chip.net.regs.items) (chip.path s.holds)
+      → CapturesAll chip.net → IsShaped chip s → s.tap ≡ RunTestIdle → select_of chip s ≡ Network
+      → IsRoute (length chip.net.regs.items) (chip.path s.holds)
       → Ready chip s
 
 -- The same of benches that keep the list of an instrument's events.

@@ -18,8 +18,9 @@ pub enum DataRegister {
     Bypass,
 }
 
-/// What an instruction selects: the link's opcode the network, the identity opcode the identity register, every
-/// other one bypass (IEEE 1149.1-2013, clauses 8 to 12). Position 0 of the instruction is nearest TDO. It takes no memory.
+/// What an instruction selects: the link's opcode the network, the identity opcode the identity register,
+/// every other one bypass (IEEE 1149.1-2013, clauses 8 to 12). Position 0 of the instruction is nearest TDO.
+/// It takes no memory.
 pub fn selected_by(device: &Device, ir: &Bits) -> DataRegister
     requires { length ir.now.items ≡ device.now.ir }
     ensures { seen_register result ≡ selected device.now ir.now.items }

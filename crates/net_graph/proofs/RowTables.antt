@@ -1,5 +1,6 @@
 -- A mux that one bit selects is in the row that its table has for the bit.
-use Rattle.std.proofs.Common.{◌≡◌, ℕ, ◌<◌, Bool, true, false, List, [], ◌∷◌, Option, Some, None, length, get_or, sym, ap, ◌∙◌, subst, arith}
+use Rattle.std.proofs.Common.{◌≡◌, ℕ, ◌<◌, Bool, true, false, List, [], ◌∷◌, Option, Some, None, length}
+use Rattle.std.proofs.Common.{get_or, sym, ap, ◌∙◌, subst, arith}
 use Rattle.std.specs.Prelude.{map, All, unwrap_or}
 use Rattle.std.proofs.lemmas.List.{get_or-map}
 use Rattle.net_graph.specs.declared.net.BitId.{BitId}
@@ -20,11 +21,16 @@ record Says (rows : List Row) (select : List BitId) (k : OneBit) : Type 0 where
   pub zero : k.zero ≡ row_from 0 rows (false ∷ [])
   pub one : k.one ≡ row_from 0 rows (true ∷ [])
 
-says : (rows : List Row) (select : List BitId) (k : OneBit) → one_bit_of rows select ≡ Some k → Says rows select k
+says : (rows : List Row) (select : List BitId) (k : OneBit)
+    → one_bit_of rows select ≡ Some k → Says rows select k
 says rows [] k e = absurd (let none : None ≡ Some k = e in cc)
 says rows (b ∷ []) k e =
     let same : unwrap_or (one_bit_of rows (b ∷ [])) k ≡ k = ap (λ o. unwrap_or o k) e in
-    record { bits = ap (λ x. x.bit ∷ []) same; zero = sym (ap (λ x. x.zero) same); one = sym (ap (λ x. x.one) same) }
+    record {
+      bits = ap (λ x. x.bit ∷ []) same;
+      zero = sym (ap (λ x. x.zero) same);
+      one = sym (ap (λ x. x.one) same);
+    }
 says rows (b ∷ c ∷ bs) k e = absurd (let none : None ≡ Some k = e in cc)
 
 some_mux : (ms : List Mux) (m : ℕ) → m < length ms → Mux
@@ -34,16 +40,20 @@ some_mux (x ∷ ms) m l = x
 -- what is known of a mux that one bit selects
 pub record IsKnown (net : Net) (holds : Holds) (m : ℕ) (k : OneBit) : Type 0 where
   pub held : IsHeld holds k.bit
-  pub row : (bit : Bool) → hold_at holds k.bit ≡ bit → row_of net holds m ≡ row_from 0 (rows_of net m) (bit ∷ [])
+  pub row : (bit : Bool) → hold_at holds k.bit ≡ bit
+      → row_of net holds m ≡ row_from 0 (rows_of net m) (bit ∷ [])
   pub zero : k.zero ≡ row_from 0 (rows_of net m) (false ∷ [])
   pub one : k.one ≡ row_from 0 (rows_of net m) (true ∷ [])
 
-pub is_known : (net : Net) (holds : Holds) (m : ℕ) (k : OneBit) (table : List (Option OneBit)) (o : Option OneBit) → IsNet net → AreHolds net holds → m < length net.muxes.items → AreRows net table → o ≡ get_or table m o → o ≡ Some k → IsKnown net holds m k
+pub is_known : (net : Net) (holds : Holds) (m : ℕ) (k : OneBit) (table : List (Option OneBit))
+    (o : Option OneBit) → IsNet net → AreHolds net holds → m < length net.muxes.items → AreRows net table
+    → o ≡ get_or table m o → o ≡ Some k → IsKnown net holds m k
 is_known net holds m k table o n h l t g e =
     let d = some_mux net.muxes.items m l in
     let mux = get_or net.muxes.items m d in
     let fits : IsMux net mux = n.muxes m d l in
-    let there : mux_rows mux ≡ Some k = sym (get_or-map mux_rows net.muxes.items m d o l) ∙ ap (λ x. get_or x m o) (sym t) ∙ sym g ∙ e in
+    let there : mux_rows mux ≡ Some k =
+    sym (get_or-map mux_rows net.muxes.items m d o l) ∙ ap (λ x. get_or x m o) (sym t) ∙ sym g ∙ e in
     let s = says mux.rows.items mux.select.items k there in
     let rows : rows_of net m ≡ mux.rows.items = get_or-map (λ x. x.rows.items) net.muxes.items m d [] l in
     let value : select_value net holds m ≡ hold_at holds k.bit ∷ [] =

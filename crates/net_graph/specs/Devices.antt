@@ -1,6 +1,6 @@
--- Devices that can carry a network: an instruction register of 2 to 64 bits whose opcodes fit into it, and in which
--- the access link, the identity register and bypass have opcodes of their own
--- (IEEE 1149.1-2013, clause 8: all ones is BYPASS; IEEE 1687-2014: access link).
+-- Devices that can carry a network: an instruction register of 2 to 64 bits whose opcodes fit into it, and in
+-- which the access link, the identity register and bypass have opcodes of their own (IEEE 1149.1-2013, clause
+-- 8: all ones is BYPASS; IEEE 1687-2014: access link).
 use Rattle.std.specs.Prelude.{◌≢◌, ◌<◌, ◌≤◌, ◌-◌, ◌^◌, ℕ, Option, Some, None}
 use Rattle.net_graph.specs.declared.device.Device.{Device}
 

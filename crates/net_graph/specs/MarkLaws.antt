@@ -12,7 +12,8 @@ SetIsThere = (marks : Marks) (b : BitId) (n : ℕ) → HasMark marks b → mark_
 
 -- any other bit keeps its own
 abbrev pub OthersStay : Type 0
-OthersStay = (marks : Marks) (b c : BitId) (n : ℕ) → same_place c b ≡ false → mark_at (set_mark marks b n) c ≡ mark_at marks c
+OthersStay = (marks : Marks) (b c : BitId) (n : ℕ) → same_place c b ≡ false
+    → mark_at (set_mark marks b n) c ≡ mark_at marks c
 
 -- and bits that have one still have one
 abbrev pub BitsStay : Type 0

@@ -11,7 +11,8 @@ use Rattle.net_graph.specs.Marks.{HasMark, Marks, mark_at}
 abbrev pub HaveMarks : Net → Marks → Type 0
 HaveMarks net marks = (b : BitId) → IsBitOf net b → HasMark marks b
 
--- the mark of each of some bits is its place among them, counted from 1, and each bit of the network has a mark
+-- the mark of each of some bits is its place among them, counted from 1, and each bit of the network has a
+-- mark
 pub record AreNumbered (net : Net) (marks : Marks) (bits : List BitId) : Type 0 where
   pub places : (i : ℕ) (b : BitId) → i < length bits → mark_at marks (slice_index_or bits i b) ≡ i + 1
   pub there : HaveMarks net marks

@@ -1,5 +1,5 @@
--- The written paths of what stands in a network: the instance names below the top, and a name of its own, with dots
--- between (IEEE 1687-2014, ICL: Instance, ScanRegister, data ports, Alias, ScanMux).
+-- The written paths of what stands in a network: the instance names below the top, and a name of its own,
+-- with dots between (IEEE 1687-2014, ICL: Instance, ScanRegister, data ports, Alias, ScanMux).
 use Rattle.std.specs.Prelude.{ℕ, List, [], ◌∷◌, ◌++◌, map, get_or}
 use Rattle.std.specs.List.{flat_map}
 use Rattle.ij_bits.specs.Room.{Listed}
@@ -28,9 +28,11 @@ instance_path net n = joined (node_names net n)
 -- a thing: its node's names, each with a dot, and its own
 abbrev pub thing_path : Net → ℕ → List ℕ
 thing_path net t =
-    flat_map with_dot (node_names net (get_or (map (λ thing. thing.node) net.things.items) t 0)) ++ get_or (map (λ thing. thing.name.items) net.things.items) t []
+    flat_map with_dot (node_names net (get_or (map (λ thing. thing.node) net.things.items) t 0))
+    ++ get_or (map (λ thing. thing.name.items) net.things.items) t []
 
 -- a mux: its node's names, each with a dot, and its own
 abbrev pub mux_path : Net → ℕ → List ℕ
 mux_path net m =
-    flat_map with_dot (node_names net (get_or (map (λ mux. mux.node) net.muxes.items) m 0)) ++ get_or (map (λ mux. mux.name.items) net.muxes.items) m []
+    flat_map with_dot (node_names net (get_or (map (λ mux. mux.node) net.muxes.items) m 0))
+    ++ get_or (map (λ mux. mux.name.items) net.muxes.items) m []

@@ -10,7 +10,8 @@ use Rattle.net_graph.specs.Path.{row_from}
 -- the one select bit of a mux, and its rows
 abbrev pub one_bit_of : List Row → List BitId → Option OneBit
 one_bit_of rows [] = None
-one_bit_of rows (bit ∷ []) = Some (record { bit = bit; zero = row_from 0 rows (false ∷ []); one = row_from 0 rows (true ∷ []) })
+one_bit_of rows (bit ∷ []) =
+    Some (record { bit = bit; zero = row_from 0 rows (false ∷ []); one = row_from 0 rows (true ∷ []) })
 one_bit_of rows (bit ∷ other ∷ bits) = None
 
 abbrev pub mux_rows : Mux → Option OneBit

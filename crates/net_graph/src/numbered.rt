@@ -26,20 +26,21 @@ fn place_of(marks: &BitMarks, bit: BitId, count: usize) -> Option<usize>
     }
 }
 
-/// Gives a bit the mark of the place after so many others. Where these have the marks of their places, and none of them is this
-/// bit, all have them then. Takes no memory.
+/// Gives a bit the mark of the place after so many others. Where these have the marks of their places, and
+/// none of them is this bit, all have them then. Takes no memory.
 pub fn mark_next(_net: &Net, marks: &mut BitMarks, bit: BitId, count: usize)
     requires few { count + 1 < 2 ^ 32 }
     requires there { HasMark marks.old bit }
     ensures mark { marks.new ≡ set_mark marks.old bit (count + 1) }
-    ensures numbered { (bits : List ABit) → AreNumbered _net.now marks.old bits → length bits ≡ count → All (λ c. same_place c bit ≡ false) bits → AreNumbered _net.now marks.new (bits ++ bit ∷ []) }
+    ensures numbered { (bits : List ABit) → AreNumbered _net.now marks.old bits → length bits ≡ count
+        → All (λ c. same_place c bit ≡ false) bits → AreNumbered _net.now marks.new (bits ++ bit ∷ []) }
 {
     marks_law();
     marks.set(bit, count as u32 + 1);
 }
 
-/// Where the write of a bit stands among some whose bits have the marks of their places, or none. It looks at one mark. Takes no
-/// memory.
+/// Where the write of a bit stands among some whose bits have the marks of their places, or none. It looks at
+/// one mark. Takes no memory.
 pub fn written_at(_net: &Net, marks: &BitMarks, writes: &[WriteBit], bit: BitId) -> Option<usize>
     requires { AreNumbered _net.now marks.now (bits_written writes.now) }
     ensures { result ≡ position (λ w. same_place w.bit bit) writes.now }
@@ -56,8 +57,8 @@ pub fn written_at(_net: &Net, marks: &BitMarks, writes: &[WriteBit], bit: BitId)
     }
 }
 
-/// Where the read of a bit stands among some whose bits have the marks of their places, or none. It looks at one mark. Takes no
-/// memory.
+/// Where the read of a bit stands among some whose bits have the marks of their places, or none. It looks at
+/// one mark. Takes no memory.
 pub fn read_at(_net: &Net, marks: &BitMarks, reads: &[ReadBit], bit: BitId) -> Option<usize>
     requires { AreNumbered _net.now marks.now (bits_compared reads.now) }
     ensures { result ≡ position (λ r. same_place r.bit bit) reads.now }
@@ -74,7 +75,8 @@ pub fn read_at(_net: &Net, marks: &BitMarks, reads: &[ReadBit], bit: BitId) -> O
     }
 }
 
-/// Whether a register is among others, whose first bits have the marks of their places. It looks at one mark. Takes no memory.
+/// Whether a register is among others, whose first bits have the marks of their places. It looks at one mark.
+/// Takes no memory.
 pub fn is_in(_net: &Net, marks: &BitMarks, registers: &[u32], register: u32) -> bool
     requires { AreNumbered _net.now marks.now (first_bits registers.now) }
     ensures { result ≡ list_any (λ q. q == register) registers.now }

@@ -23,8 +23,8 @@ pub struct OneBit {
     pub(crate) one: Option<u32>,
 }
 
-/// The rows of each mux that one bit selects, as that of a segment insertion bit (IEEE 1687-2014: SIB): found once, and then looked
-/// up. Of other muxes it says nothing.
+/// The rows of each mux that one bit selects, as that of a segment insertion bit (IEEE 1687-2014: SIB): found
+/// once, and then looked up. Of other muxes it says nothing.
 ///
 /// Contracts see a list, as of `specs/RowTables.antt`.
 #[derive(Drop)]

@@ -26,7 +26,8 @@ fn mark_one(marks: &mut BitMarks, bit: BitId)
 /// Marks bits.
 fn mark_all(marks: &mut BitMarks, bits: &[BitId])
     requires { All (HasMark marks.old) bits.now }
-    ensures marked { (b : ABit) → is_marked marks.new b ≡ (list_any (same_place b) bits.now || is_marked marks.old b) }
+    ensures marked { (b : ABit)
+        → is_marked marks.new b ≡ (list_any (same_place b) bits.now || is_marked marks.old b) }
     ensures there { (b : ABit) → HasMark marks.old b → HasMark marks.new b }
 {
     for bit in bits {

@@ -1,6 +1,7 @@
--- What drives the input of an instrument, from its left bit on: constants, and register bits in runs (IEEE 1687-2014, ICL:
--- DataInPort, Source).
-use Rattle.std.specs.Prelude.{ℕ, zero, suc, ◌+◌, ◌-◌, ◌==◌, ◌&&◌, Bool, false, cond, List, [], ◌∷◌, ◌++◌, codes, decimal, get_or, length, map, ltb}
+-- What drives the input of an instrument, from its left bit on: constants, and register bits in runs (IEEE
+-- 1687-2014, ICL: DataInPort, Source).
+use Rattle.std.specs.Prelude.{ℕ, zero, suc, ◌+◌, ◌-◌, ◌==◌, ◌&&◌, Bool, false, cond, List, [], ◌∷◌, ◌++◌}
+use Rattle.std.specs.Prelude.{codes, decimal, get_or, length, map, ltb}
 use Rattle.ij_bits.specs.BitLists.{same_bit}
 use Rattle.net_graph.specs.declared.net.BitId.{BitId}
 use Rattle.net_graph.specs.declared.net.Net.{Net}
@@ -20,7 +21,8 @@ index_between left right pos = cond (ltb left right) (right - pos) (right + pos)
 abbrev pub index_of : Net → BitId → ℕ
 index_of net b =
     let t = thing_of net b.reg in
-    index_between (get_or (map (λ thing. thing.left) net.things.items) t 0) (get_or (map (λ thing. thing.right) net.things.items) t 0) b.pos
+    index_between (get_or (map (λ thing. thing.left) net.things.items) t 0)
+    (get_or (map (λ thing. thing.right) net.things.items) t 0) b.pos
 
 -- a bit: its register, and its index after a bracket (91), and in brackets (93)
 abbrev pub open_name : Net → BitId → List ℕ
@@ -75,7 +77,8 @@ abbrev pub driver : Net → List Sig → ℕ → List ℕ
 driver net bits p =
     let s = get_or bits p Absent in
     let more = goes_on bits p in
-    cond more [] (cond (suc p == length bits) [] (codes ",") ++ run_start net s) ++ cond (is_followed bits p) [] (run_end net more s)
+    cond more [] (cond (suc p == length bits) [] (codes ",") ++ run_start net s)
+    ++ cond (is_followed bits p) [] (run_end net more s)
 
 -- the lowest n positions, the highest first
 abbrev pub drivers : Net → List Sig → ℕ → List ℕ

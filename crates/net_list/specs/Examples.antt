@@ -1,4 +1,5 @@
--- Worked indices of outputs: q[7:4] and r[0:3] of the instrument at node 1 (IEEE 1687-2014, ICL: DataOutPort).
+-- Worked indices of outputs: q[7:4] and r[0:3] of the instrument at node 1 (IEEE 1687-2014, ICL:
+-- DataOutPort).
 use Rattle.std.specs.Prelude.{◌≡◌, ℕ, Bool, false, List, [], ◌∷◌, codes, refl}
 use Rattle.ij_bits.specs.Room.{full}
 use Rattle.net_graph.specs.declared.net.Sig.TheVariants.{Out}
@@ -10,11 +11,19 @@ use Rattle.net_list.specs.Outputs.{index_in}
 
 -- position 0 first
 abbrev four : ℕ → List Spot
-four port = Outward (Out 0 port 0 false) ∷ Outward (Out 0 port 1 false) ∷ Outward (Out 0 port 2 false) ∷ Outward (Out 0 port 3 false) ∷ []
+four port = Outward (Out 0 port 0 false) ∷ Outward (Out 0 port 1 false)
+    ∷ Outward (Out 0 port 2 false) ∷ Outward (Out 0 port 3 false) ∷ []
 
 abbrev port : ℕ → List ℕ → ℕ → ℕ → ℕ → Thing
 port node name left right number =
-    record { node = node; name = full name; left = left; right = right; bits = full (four number); words = full [] }
+    record {
+      node = node;
+      name = full name;
+      left = left;
+      right = right;
+      bits = full (four number);
+      words = full [];
+    }
 
 abbrev things : List Thing
 things = port 2 (codes "q") 3 0 0 ∷ port 1 (codes "q") 7 4 0 ∷ port 1 (codes "r") 0 3 1 ∷ []

@@ -23,4 +23,5 @@ names r = record { writes = record { bit = record { reg = r; pos = 0 }; value = 
 -- no sequence of scans from power-up on writes a register sooner, and one does as soon
 abbrev pub ScansAreFewest : Type 0
 ScansAreFewest =
-    (net : Net) (form : Items) (r : ℕ) → IsNet net → Describes net form → IsLawful net form → r < length net.regs.items → IsLeast net (names r) (start_holds net) (fewest_scans net form r)
+    (net : Net) (form : Items) (r : ℕ) → IsNet net → Describes net form → IsLawful net form
+    → r < length net.regs.items → IsLeast net (names r) (start_holds net) (fewest_scans net form r)

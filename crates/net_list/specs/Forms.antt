@@ -19,11 +19,12 @@ abbrev pub items : {T : Type 0} → (T → List ℕ) → List ℕ → List ℕ �
 items item between before [] = []
 items item between before (x ∷ xs) = before ++ (item x ++ items item between between xs)
 
--- a list: in text these words, the items and blanks between; in JSON these words and a bracket, the items and commas between;
--- text has nothing for an empty one
+-- a list: in text these words, the items and blanks between; in JSON these words and a bracket, the items and
+-- commas between; text has nothing for an empty one
 abbrev pub listed : {T : Type 0} → ListFormat → List ℕ → List ℕ → (T → List ℕ) → List T → List ℕ
 listed f text json item xs =
-    either f [] json ++ (items item (either f (codes " ") (codes ",")) (either f text []) xs ++ either f [] (codes "]"))
+    either f [] json
+    ++ (items item (either f (codes " ") (codes ",")) (either f text []) xs ++ either f [] (codes "]"))
 
 -- the digit of a bit, an x (120) where it is open
 abbrev pub tern_digit : Tern → ℕ → ℕ

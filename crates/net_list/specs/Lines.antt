@@ -1,4 +1,5 @@
--- The lines of a register, a multiplexer and an instrument (IEEE 1687-2014, ICL: ScanRegister, ScanMux, Instance).
+-- The lines of a register, a multiplexer and an instrument (IEEE 1687-2014, ICL: ScanRegister, ScanMux,
+-- Instance).
 use Rattle.std.specs.Prelude.{ℕ, zero, suc, ◌==◌, Bool, List, [], ◌++◌, codes, filter, get_or, length, map}
 use Rattle.std.specs.List.{list_any, range_with_len}
 use Rattle.net_graph.specs.declared.branch.Branch.{Branch}
@@ -27,7 +28,8 @@ quoted f name = either f [] (codes "\"") ++ (name ++ either f [] (codes "\""))
 -- a row, by its mux and its select values
 abbrev pub branch_text : ListFormat → Net → Branch → List ℕ
 branch_text f net b =
-    either f [] (codes "[\"") ++ (mux_path net b.mux ++ (either f (codes "=") (codes "\",\"") ++ (values_text (values_of net b) ++ either f [] (codes "\"]"))))
+    either f [] (codes "[\"") ++ (mux_path net b.mux ++ (either f (codes "=") (codes "\",\"")
+    ++ (values_text (values_of net b) ++ either f [] (codes "\"]"))))
 
 -- the rows around an item, outermost first
 abbrev pub place_text : ListFormat → Net → List Branch → List ℕ
@@ -55,7 +57,11 @@ width_text f net r = counted f (codes " bits ") (codes "\",\"bits\":") (width_of
 -- a register with its place, and in how many scans it is reached
 abbrev pub register_text : ListFormat → Net → ℕ → List Branch → ℕ → List ℕ
 register_text f net r place scans =
-    either f (codes "register ") (codes "{\"register\":\"") ++ (register_path net r ++ (width_text f net r ++ (either f (codes " reset ") (codes ",\"reset\":\"") ++ (reset_text net r ++ (counted f (codes " depth ") (codes "\",\"depth\":") (length place) ++ (counted f (codes " scans ") (codes ",\"scans\":") scans ++ (place_text f net place ++ (selects_text f net r ++ either f (codes "\n") (codes "}\n")))))))))
+    either f (codes "register ") (codes "{\"register\":\"")
+    ++ (register_path net r ++ (width_text f net r ++ (either f (codes " reset ") (codes ",\"reset\":\"")
+    ++ (reset_text net r ++ (counted f (codes " depth ") (codes "\",\"depth\":") (length place)
+    ++ (counted f (codes " scans ") (codes ",\"scans\":") scans
+    ++ (place_text f net place ++ (selects_text f net r ++ either f (codes "\n") (codes "}\n")))))))))
 
 abbrev pub register_line : ListFormat → Net → Items → ℕ → List ℕ
 register_line f net form r = register_text f net r (place_of form (Reg r)) (fewest_scans net form r)
@@ -64,12 +70,14 @@ register_line f net form r = register_text f net r (place_of form (Reg r)) (fewe
 abbrev pub select_bits : ListFormat → Net → List ℕ → List BitId → ℕ → List ℕ
 select_bits f net before bits zero = []
 select_bits f net before bits (suc n) =
-    before ++ (quoted f (bit_name net (get_or bits n (record { reg = 0; pos = 0 }))) ++ select_bits f net (either f (codes " ") (codes ",")) bits n)
+    before ++ (quoted f (bit_name net (get_or bits n (record { reg = 0; pos = 0 })))
+    ++ select_bits f net (either f (codes " ") (codes ",")) bits n)
 
 -- a row's select values: in text on a line of its own, after the mux
 abbrev pub row_text : ListFormat → Net → ℕ → Row → List ℕ
 row_text f net m row =
-    either f (codes "row ") (codes "\"") ++ (either f (mux_path net m ++ codes "=") [] ++ (values_text row.values.items ++ either f (codes "\n") (codes "\"")))
+    either f (codes "row ") (codes "\"") ++ (either f (mux_path net m ++ codes "=") []
+    ++ (values_text row.values.items ++ either f (codes "\n") (codes "\"")))
 
 abbrev pub rows_text : ListFormat → Net → ℕ → List ℕ
 rows_text f net m = items (row_text f net m) (either f [] (codes ",")) [] (rows_of net m)
@@ -82,7 +90,10 @@ row_count_text f net m = counted f (codes " rows ") (codes "\",\"rows\":") (leng
 
 abbrev pub mux_text : ListFormat → Net → ℕ → ℕ → List ℕ
 mux_text f net m depth =
-    either f (codes "mux ") (codes "{\"mux\":\"") ++ (mux_path net m ++ (row_count_text f net m ++ (either f (codes " select ") (codes ",\"select\":[") ++ (selects_of_text f net m ++ (counted f (codes " depth ") (codes "],\"depth\":") depth ++ (either f (codes "\n") (codes ",\"values\":[") ++ (rows_text f net m ++ either f [] (codes "]}\n"))))))))
+    either f (codes "mux ") (codes "{\"mux\":\"")
+    ++ (mux_path net m ++ (row_count_text f net m ++ (either f (codes " select ") (codes ",\"select\":[")
+    ++ (selects_of_text f net m ++ (counted f (codes " depth ") (codes "],\"depth\":") depth ++ (either f
+    (codes "\n") (codes ",\"values\":[") ++ (rows_text f net m ++ either f [] (codes "]}\n"))))))))
 
 abbrev pub mux_line : ListFormat → Net → Items → ℕ → List ℕ
 mux_line f net form m = mux_text f net m (length (place_of form (Mux m)))
@@ -90,22 +101,27 @@ mux_line f net form m = mux_text f net m (length (place_of form (Mux m)))
 -- a data input, with what drives it, and a data output
 abbrev pub input_text : ListFormat → Net → PortIn → List ℕ
 input_text f net port =
-    either f (codes "in ") (codes "{\"port\":\"") ++ (port.name.items ++ (counted f (codes " ") (codes "\",\"bits\":") (length port.bits.items) ++ (either f (codes " from ") (codes ",\"from\":\"") ++ (drivers net port.bits.items (length port.bits.items) ++ either f [] (codes "\"}")))))
+    either f (codes "in ") (codes "{\"port\":\"") ++ (port.name.items ++ (counted f (codes " ")
+    (codes "\",\"bits\":") (length port.bits.items) ++ (either f (codes " from ") (codes ",\"from\":\"")
+    ++ (drivers net port.bits.items (length port.bits.items) ++ either f [] (codes "\"}")))))
 
 abbrev pub output_text : ListFormat → PortOut → List ℕ
 output_text f port =
-    either f (codes "out ") (codes "{\"port\":\"") ++ (port.name.items ++ (counted f (codes " ") (codes "\",\"bits\":") port.width ++ either f [] (codes "}")))
+    either f (codes "out ") (codes "{\"port\":\"") ++ (port.name.items
+    ++ (counted f (codes " ") (codes "\",\"bits\":") port.width ++ either f [] (codes "}")))
 
 -- ports, in JSON in two lists
 abbrev pub port_lists : ListFormat → Net → List PortIn → List PortOut → List ℕ
 port_lists f net ins outs =
     let between = either f (codes " ") (codes ",") in
     let first = either f (codes " ") [] in
-    either f [] (codes ",\"in\":[") ++ (items (input_text f net) between first ins ++ (either f [] (codes "],\"out\":[") ++ (items (output_text f) between first outs ++ either f [] (codes "]"))))
+    either f [] (codes ",\"in\":[") ++ (items (input_text f net) between first ins ++ (either f []
+    (codes "],\"out\":[") ++ (items (output_text f) between first outs ++ either f [] (codes "]"))))
 
 abbrev pub ports_text : ListFormat → Net → ℕ → List ℕ
 ports_text f net i =
-    port_lists f net (get_or (map (λ inst. inst.ins.items) net.insts.items) i []) (get_or (map (λ inst. inst.outs.items) net.insts.items) i [])
+    port_lists f net (get_or (map (λ inst. inst.ins.items) net.insts.items) i [])
+    (get_or (map (λ inst. inst.outs.items) net.insts.items) i [])
 
 -- an instrument, by its node
 abbrev pub instrument_path : Net → ℕ → List ℕ
@@ -113,4 +129,5 @@ instrument_path net i = instance_path net (get_or (map (λ inst. inst.node) net.
 
 abbrev pub instrument_line : ListFormat → Net → ℕ → List ℕ
 instrument_line f net i =
-    either f (codes "instrument ") (codes "{\"instrument\":\"") ++ (instrument_path net i ++ (either f [] (codes "\"") ++ (ports_text f net i ++ either f (codes "\n") (codes "}\n"))))
+    either f (codes "instrument ") (codes "{\"instrument\":\"") ++ (instrument_path net i
+    ++ (either f [] (codes "\"") ++ (ports_text f net i ++ either f (codes "\n") (codes "}\n"))))

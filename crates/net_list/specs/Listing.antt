@@ -1,4 +1,5 @@
--- What a network has, one thing a line: each register, multiplexer and instrument once, in the network's order, and totals.
+-- What a network has, one thing a line: each register, multiplexer and instrument once, in the network's
+-- order, and totals.
 use Rattle.std.specs.Prelude.{ℕ, zero, suc, List, [], ◌++◌, codes, length, map, sum}
 use Rattle.net_graph.specs.Chain.{chain}
 use Rattle.net_graph.specs.declared.net.Net.{Net}
@@ -24,12 +25,18 @@ start_path_bits net = length (chain (route_of net (start_holds net)) (start_hold
 -- the line of these numbers
 abbrev pub totals_text : ListFormat → ℕ → ℕ → ℕ → ℕ → ℕ → List ℕ
 totals_text f regs bits muxes insts path =
-    counted f (codes "network registers ") (codes "{\"network\":{\"registers\":") regs ++ (counted f (codes " bits ") (codes ",\"bits\":") bits ++ (counted f (codes " muxes ") (codes ",\"muxes\":") muxes ++ (counted f (codes " instruments ") (codes ",\"instruments\":") insts ++ (counted f (codes " path at reset ") (codes ",\"path\":") path ++ either f (codes "\n") (codes "}}\n")))))
+    counted f (codes "network registers ") (codes "{\"network\":{\"registers\":") regs ++ (counted f
+    (codes " bits ") (codes ",\"bits\":") bits ++ (counted f (codes " muxes ") (codes ",\"muxes\":") muxes
+    ++ (counted f (codes " instruments ") (codes ",\"instruments\":") insts ++ (counted f
+    (codes " path at reset ") (codes ",\"path\":") path ++ either f (codes "\n") (codes "}}\n")))))
 
 abbrev pub totals_line : ListFormat → Net → List ℕ
 totals_line f net =
-    totals_text f (length net.regs.items) (bit_count net) (length net.muxes.items) (length net.insts.items) (start_path_bits net)
+    totals_text f (length net.regs.items) (bit_count net) (length net.muxes.items)
+    (length net.insts.items) (start_path_bits net)
 
 abbrev pub list_text : ListFormat → Net → Items → List ℕ
 list_text f net form =
-    lines_from (register_line f net form) 0 (length net.regs.items) ++ (lines_from (mux_line f net form) 0 (length net.muxes.items) ++ (lines_from (instrument_line f net) 0 (length net.insts.items) ++ totals_line f net))
+    lines_from (register_line f net form) 0 (length net.regs.items)
+    ++ (lines_from (mux_line f net form) 0 (length net.muxes.items)
+    ++ (lines_from (instrument_line f net) 0 (length net.insts.items) ++ totals_line f net))

@@ -1,4 +1,5 @@
--- The outputs of instruments: their names, and the indices of their bits in the ICL text (IEEE 1687-2014, ICL: DataOutPort).
+-- The outputs of instruments: their names, and the indices of their bits in the ICL text (IEEE 1687-2014,
+-- ICL: DataOutPort).
 use Rattle.std.specs.Prelude.{ℕ, ◌==◌, ◌&&◌, Bool, cond, List, [], ◌∷◌, ◌++◌, codes, get_or, length, map}
 use Rattle.std.specs.Str.{bytes_eq}
 use Rattle.net_graph.specs.declared.net.Net.{Net}

@@ -1,5 +1,6 @@
 // What drives the inputs of instruments.
-ghost use Rattle.std.specs.Prelude.{◌≡◌, ◌<◌, ◌==◌, ◌++◌, [], suc, codes, cond, get_or, length, All, OnOk, OnErr};
+ghost use Rattle.std.specs.Prelude.{◌≡◌, ◌<◌, ◌==◌, ◌++◌, [], suc, codes, cond, get_or, length, All, OnOk};
+ghost use Rattle.std.specs.Prelude.{OnErr};
 ghost use Rattle.ij_io.specs.Bytes.{Adds, AddsPart};
 ghost use Rattle.ij_io.specs.Causes.{HasCause};
 ghost use Rattle.net_graph.specs.Named.{IsInputOf};
@@ -69,8 +70,10 @@ fn put_bit_start<K: Sink>(
 ) -> Result<(), StoreFault>
     requires well_formed { IsNet net.now }
     requires there { bit.reg < length net.now.regs.items }
-    ensures whole { OnOk result (Adds (K.taken k.old) (K.taken k.new) (drivers.run_start net.now (sig.Bit bit inverted))) }
-    ensures part { OnErr result (AddsPart (K.taken k.old) (K.taken k.new) (drivers.run_start net.now (sig.Bit bit inverted))) }
+    ensures whole { OnOk result
+        (Adds (K.taken k.old) (K.taken k.new) (drivers.run_start net.now (sig.Bit bit inverted))) }
+    ensures part { OnErr result
+        (AddsPart (K.taken k.old) (K.taken k.new) (drivers.run_start net.now (sig.Bit bit inverted))) }
     ensures cause { HasCause (K.faults k.old) (K.faults k.new) result StoreFault.Failed }
 {
     k.write(tilde_if(inverted))?;
@@ -83,7 +86,8 @@ fn put_run_start<K: Sink>(net: &Net, signal: Sig, k: &mut K) -> Result<(), Store
     requires well_formed { IsNet net.now }
     requires there { IsInputOf net.now signal }
     ensures whole { OnOk result (Adds (K.taken k.old) (K.taken k.new) (drivers.run_start net.now signal)) }
-    ensures part { OnErr result (AddsPart (K.taken k.old) (K.taken k.new) (drivers.run_start net.now signal)) }
+    ensures part { OnErr result
+        (AddsPart (K.taken k.old) (K.taken k.new) (drivers.run_start net.now signal)) }
     ensures cause { HasCause (K.faults k.old) (K.faults k.new) result StoreFault.Failed }
 {
     match signal {
@@ -98,8 +102,10 @@ fn put_run_start<K: Sink>(net: &Net, signal: Sig, k: &mut K) -> Result<(), Store
 fn put_run<K: Sink>(net: &Net, first: bool, signal: Sig, k: &mut K) -> Result<(), StoreFault>
     requires well_formed { IsNet net.now }
     requires there { IsInputOf net.now signal }
-    ensures whole { OnOk result (Adds (K.taken k.old) (K.taken k.new) (cond first [] (codes ",") ++ drivers.run_start net.now signal)) }
-    ensures part { OnErr result (AddsPart (K.taken k.old) (K.taken k.new) (cond first [] (codes ",") ++ drivers.run_start net.now signal)) }
+    ensures whole { OnOk result (Adds (K.taken k.old) (K.taken k.new)
+        (cond first [] (codes ",") ++ drivers.run_start net.now signal)) }
+    ensures part { OnErr result (AddsPart (K.taken k.old) (K.taken k.new)
+        (cond first [] (codes ",") ++ drivers.run_start net.now signal)) }
     ensures cause { HasCause (K.faults k.old) (K.faults k.new) result StoreFault.Failed }
 {
     k.write(comma_unless(first))?;
@@ -117,8 +123,10 @@ fn put_start<K: Sink>(
 ) -> Result<(), StoreFault>
     requires well_formed { IsNet net.now }
     requires there { IsInputOf net.now signal }
-    ensures whole { OnOk result (Adds (K.taken k.old) (K.taken k.new) (cond goes_on [] (cond first [] (codes ",") ++ drivers.run_start net.now signal))) }
-    ensures part { OnErr result (AddsPart (K.taken k.old) (K.taken k.new) (cond goes_on [] (cond first [] (codes ",") ++ drivers.run_start net.now signal))) }
+    ensures whole { OnOk result (Adds (K.taken k.old) (K.taken k.new)
+        (cond goes_on [] (cond first [] (codes ",") ++ drivers.run_start net.now signal))) }
+    ensures part { OnErr result (AddsPart (K.taken k.old) (K.taken k.new)
+        (cond goes_on [] (cond first [] (codes ",") ++ drivers.run_start net.now signal))) }
     ensures cause { HasCause (K.faults k.old) (K.faults k.new) result StoreFault.Failed }
 {
     if goes_on {
@@ -134,7 +142,8 @@ fn put_index<K: Sink>(net: &Net, bit: BitId, more: bool, k: &mut K) -> Result<()
     requires well_formed { IsNet net.now }
     requires there { bit.reg < length net.now.regs.items }
     ensures whole { OnOk result (Adds (K.taken k.old) (K.taken k.new) (drivers.last_index net.now bit more)) }
-    ensures part { OnErr result (AddsPart (K.taken k.old) (K.taken k.new) (drivers.last_index net.now bit more)) }
+    ensures part { OnErr result
+        (AddsPart (K.taken k.old) (K.taken k.new) (drivers.last_index net.now bit more)) }
     ensures cause { HasCause (K.faults k.old) (K.faults k.new) result StoreFault.Failed }
 {
     if more {
@@ -153,7 +162,8 @@ fn put_run_end<K: Sink>(net: &Net, more: bool, signal: Sig, k: &mut K) -> Result
     requires well_formed { IsNet net.now }
     requires there { IsInputOf net.now signal }
     ensures whole { OnOk result (Adds (K.taken k.old) (K.taken k.new) (drivers.run_end net.now more signal)) }
-    ensures part { OnErr result (AddsPart (K.taken k.old) (K.taken k.new) (drivers.run_end net.now more signal)) }
+    ensures part { OnErr result
+        (AddsPart (K.taken k.old) (K.taken k.new) (drivers.run_end net.now more signal)) }
     ensures cause { HasCause (K.faults k.old) (K.faults k.new) result StoreFault.Failed }
 {
     match signal {
@@ -172,8 +182,10 @@ fn put_end<K: Sink>(
 ) -> Result<(), StoreFault>
     requires well_formed { IsNet net.now }
     requires there { IsInputOf net.now signal }
-    ensures whole { OnOk result (Adds (K.taken k.old) (K.taken k.new) (cond is_followed [] (drivers.run_end net.now more signal))) }
-    ensures part { OnErr result (AddsPart (K.taken k.old) (K.taken k.new) (cond is_followed [] (drivers.run_end net.now more signal))) }
+    ensures whole { OnOk result
+        (Adds (K.taken k.old) (K.taken k.new) (cond is_followed [] (drivers.run_end net.now more signal))) }
+    ensures part { OnErr result (AddsPart (K.taken k.old) (K.taken k.new)
+        (cond is_followed [] (drivers.run_end net.now more signal))) }
     ensures cause { HasCause (K.faults k.old) (K.faults k.new) result StoreFault.Failed }
 {
     if is_followed {
@@ -205,7 +217,8 @@ fn put_driver<K: Sink>(net: &Net, bits: &[Sig], pos: usize, k: &mut K) -> Result
     requires inputs { All (IsInputOf net.now) bits.now }
     requires there { pos < length bits.now }
     ensures whole { OnOk result (Adds (K.taken k.old) (K.taken k.new) (drivers.driver net.now bits.now pos)) }
-    ensures part { OnErr result (AddsPart (K.taken k.old) (K.taken k.new) (drivers.driver net.now bits.now pos)) }
+    ensures part { OnErr result
+        (AddsPart (K.taken k.old) (K.taken k.new) (drivers.driver net.now bits.now pos)) }
     ensures cause { HasCause (K.faults k.old) (K.faults k.new) result StoreFault.Failed }
 {
     let signal = signal_at(bits, pos);
@@ -221,8 +234,10 @@ fn put_driver<K: Sink>(net: &Net, bits: &[Sig], pos: usize, k: &mut K) -> Result
 pub(crate) fn put_drivers<K: Sink>(net: &Net, bits: &[Sig], k: &mut K) -> Result<(), StoreFault>
     requires well_formed { IsNet net.now }
     requires inputs { All (IsInputOf net.now) bits.now }
-    ensures whole { OnOk result (Adds (K.taken k.old) (K.taken k.new) (drivers.drivers net.now bits.now (length bits.now))) }
-    ensures part { OnErr result (AddsPart (K.taken k.old) (K.taken k.new) (drivers.drivers net.now bits.now (length bits.now))) }
+    ensures whole { OnOk result
+        (Adds (K.taken k.old) (K.taken k.new) (drivers.drivers net.now bits.now (length bits.now))) }
+    ensures part { OnErr result
+        (AddsPart (K.taken k.old) (K.taken k.new) (drivers.drivers net.now bits.now (length bits.now))) }
     ensures cause { HasCause (K.faults k.old) (K.faults k.new) result StoreFault.Failed }
 {
     for j in 0..bits.len() {

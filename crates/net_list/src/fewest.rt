@@ -28,7 +28,8 @@ fn is_in_row(net: &Net, holds: &Holds, row: Branch) -> bool
     row_of(net, holds, row.mux) == Some(row.row)
 }
 
-/// The fewest scans through a row that stands in no other: one where the mux is in it, and two where it must be selected.
+/// The fewest scans through a row that stands in no other: one where the mux is in it, and two where it must
+/// be selected.
 fn scans_through(net: &Net, holds: &Holds, row: Branch) -> usize
     requires well_formed { IsNet net.now }
     requires holds { AreHolds net.now holds.now }
@@ -38,8 +39,8 @@ fn scans_through(net: &Net, holds: &Holds, row: Branch) -> usize
     if is_in_row(net, holds, row) { 1 } else { 2 }
 }
 
-/// The fewest scans from power-up on in which a register is first written, by its place: those of the row that it stands in. They
-/// are planned only where that row stands in another.
+/// The fewest scans from power-up on in which a register is first written, by its place: those of the row
+/// that it stands in. They are planned only where that row stands in another.
 pub(crate) fn fewest_scans(
     alloc: Global,
     net: &Net,

@@ -32,8 +32,10 @@ pub(crate) fn put_either<K: Sink>(
     json: &[u8],
     k: &mut K,
 ) -> Result<(), StoreFault>
-    ensures whole { OnOk result (Adds (K.taken k.old) (K.taken k.new) (forms.either format text.now json.now)) }
-    ensures part { OnErr result (AddsPart (K.taken k.old) (K.taken k.new) (forms.either format text.now json.now)) }
+    ensures whole { OnOk result
+        (Adds (K.taken k.old) (K.taken k.new) (forms.either format text.now json.now)) }
+    ensures part { OnErr result
+        (AddsPart (K.taken k.old) (K.taken k.new) (forms.either format text.now json.now)) }
     ensures cause { HasCause (K.faults k.old) (K.faults k.new) result StoreFault.Failed }
 {
     k.write(either(format, text, json))
@@ -47,8 +49,10 @@ pub(crate) fn put_count<K: Sink>(
     count: u64,
     k: &mut K,
 ) -> Result<(), StoreFault>
-    ensures whole { OnOk result (Adds (K.taken k.old) (K.taken k.new) (forms.counted format text.now json.now count)) }
-    ensures part { OnErr result (AddsPart (K.taken k.old) (K.taken k.new) (forms.counted format text.now json.now count)) }
+    ensures whole { OnOk result
+        (Adds (K.taken k.old) (K.taken k.new) (forms.counted format text.now json.now count)) }
+    ensures part { OnErr result
+        (AddsPart (K.taken k.old) (K.taken k.new) (forms.counted format text.now json.now count)) }
     ensures cause { HasCause (K.faults k.old) (K.faults k.new) result StoreFault.Failed }
 {
     put_either(format, text, json, k)?;

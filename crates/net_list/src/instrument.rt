@@ -24,8 +24,10 @@ fn put_input<K: Sink>(
 ) -> Result<(), StoreFault>
     requires well_formed { IsNet net.now }
     requires inputs { All (IsInputOf net.now) port.now.bits.items }
-    ensures whole { OnOk result (Adds (K.taken k.old) (K.taken k.new) (before.now ++ lines.input_text format net.now port.now)) }
-    ensures part { OnErr result (AddsPart (K.taken k.old) (K.taken k.new) (before.now ++ lines.input_text format net.now port.now)) }
+    ensures whole { OnOk result
+        (Adds (K.taken k.old) (K.taken k.new) (before.now ++ lines.input_text format net.now port.now)) }
+    ensures part { OnErr result
+        (AddsPart (K.taken k.old) (K.taken k.new) (before.now ++ lines.input_text format net.now port.now)) }
     ensures cause { HasCause (K.faults k.old) (K.faults k.new) result StoreFault.Failed }
 {
     let bits = port.bits.as_slice();
@@ -50,8 +52,10 @@ fn put_inputs<K: Sink>(
 ) -> Result<(), StoreFault>
     requires well_formed { IsNet net.now }
     requires inputs { All (λ port. All (IsInputOf net.now) port.bits.items) ports.now }
-    ensures whole { OnOk result (Adds (K.taken k.old) (K.taken k.new) (forms.items (lines.input_text format net.now) between.now first.now ports.now)) }
-    ensures part { OnErr result (AddsPart (K.taken k.old) (K.taken k.new) (forms.items (lines.input_text format net.now) between.now first.now ports.now)) }
+    ensures whole { OnOk result (Adds (K.taken k.old) (K.taken k.new)
+        (forms.items (lines.input_text format net.now) between.now first.now ports.now)) }
+    ensures part { OnErr result (AddsPart (K.taken k.old) (K.taken k.new)
+        (forms.items (lines.input_text format net.now) between.now first.now ports.now)) }
     ensures cause { HasCause (K.faults k.old) (K.faults k.new) result StoreFault.Failed }
 {
     let mut before = first;
@@ -69,8 +73,10 @@ fn put_output<K: Sink>(
     port: &PortOut,
     k: &mut K,
 ) -> Result<(), StoreFault>
-    ensures whole { OnOk result (Adds (K.taken k.old) (K.taken k.new) (before.now ++ lines.output_text format port.now)) }
-    ensures part { OnErr result (AddsPart (K.taken k.old) (K.taken k.new) (before.now ++ lines.output_text format port.now)) }
+    ensures whole { OnOk result
+        (Adds (K.taken k.old) (K.taken k.new) (before.now ++ lines.output_text format port.now)) }
+    ensures part { OnErr result
+        (AddsPart (K.taken k.old) (K.taken k.new) (before.now ++ lines.output_text format port.now)) }
     ensures cause { HasCause (K.faults k.old) (K.faults k.new) result StoreFault.Failed }
 {
     k.write(before)?;
@@ -89,8 +95,10 @@ fn put_outputs<K: Sink>(
     ports: &[PortOut],
     k: &mut K,
 ) -> Result<(), StoreFault>
-    ensures whole { OnOk result (Adds (K.taken k.old) (K.taken k.new) (forms.items (lines.output_text format) between.now first.now ports.now)) }
-    ensures part { OnErr result (AddsPart (K.taken k.old) (K.taken k.new) (forms.items (lines.output_text format) between.now first.now ports.now)) }
+    ensures whole { OnOk result (Adds (K.taken k.old) (K.taken k.new)
+        (forms.items (lines.output_text format) between.now first.now ports.now)) }
+    ensures part { OnErr result (AddsPart (K.taken k.old) (K.taken k.new)
+        (forms.items (lines.output_text format) between.now first.now ports.now)) }
     ensures cause { HasCause (K.faults k.old) (K.faults k.new) result StoreFault.Failed }
 {
     let mut before = first;
@@ -111,8 +119,10 @@ fn put_port_lists<K: Sink>(
 ) -> Result<(), StoreFault>
     requires well_formed { IsNet net.now }
     requires inputs { All (λ port. All (IsInputOf net.now) port.bits.items) ins.now }
-    ensures whole { OnOk result (Adds (K.taken k.old) (K.taken k.new) (lines.port_lists format net.now ins.now outs.now)) }
-    ensures part { OnErr result (AddsPart (K.taken k.old) (K.taken k.new) (lines.port_lists format net.now ins.now outs.now)) }
+    ensures whole { OnOk result
+        (Adds (K.taken k.old) (K.taken k.new) (lines.port_lists format net.now ins.now outs.now)) }
+    ensures part { OnErr result
+        (AddsPart (K.taken k.old) (K.taken k.new) (lines.port_lists format net.now ins.now outs.now)) }
     ensures cause { HasCause (K.faults k.old) (K.faults k.new) result StoreFault.Failed }
 {
     let between = either(format, b" ", b",");
@@ -129,8 +139,10 @@ fn put_port_lists<K: Sink>(
 fn put_ports<K: Sink>(format: ListFormat, net: &Net, inst: u32, k: &mut K) -> Result<(), StoreFault>
     requires well_formed { IsNet net.now }
     requires there { inst < length net.now.insts.items }
-    ensures whole { OnOk result (Adds (K.taken k.old) (K.taken k.new) (lines.ports_text format net.now inst)) }
-    ensures part { OnErr result (AddsPart (K.taken k.old) (K.taken k.new) (lines.ports_text format net.now inst)) }
+    ensures whole { OnOk result
+        (Adds (K.taken k.old) (K.taken k.new) (lines.ports_text format net.now inst)) }
+    ensures part { OnErr result
+        (AddsPart (K.taken k.old) (K.taken k.new) (lines.ports_text format net.now inst)) }
     ensures cause { HasCause (K.faults k.old) (K.faults k.new) result StoreFault.Failed }
 {
     let it = net.insts.get(inst as usize);
@@ -152,7 +164,8 @@ fn put_path<K: Sink>(net: &Net, inst: u32, k: &mut K) -> Result<(), StoreFault>
     requires well_formed { IsNet net.now }
     requires there { inst < length net.now.insts.items }
     ensures whole { OnOk result (Adds (K.taken k.old) (K.taken k.new) (lines.instrument_path net.now inst)) }
-    ensures part { OnErr result (AddsPart (K.taken k.old) (K.taken k.new) (lines.instrument_path net.now inst)) }
+    ensures part { OnErr result
+        (AddsPart (K.taken k.old) (K.taken k.new) (lines.instrument_path net.now inst)) }
     ensures cause { HasCause (K.faults k.old) (K.faults k.new) result StoreFault.Failed }
 {
     put_instance_path(net, node_of(net, inst), k)
@@ -167,8 +180,10 @@ fn put_instrument<K: Sink>(
 ) -> Result<(), StoreFault>
     requires well_formed { IsNet net.now }
     requires there { inst < length net.now.insts.items }
-    ensures whole { OnOk result (Adds (K.taken k.old) (K.taken k.new) (lines.instrument_line format net.now inst)) }
-    ensures part { OnErr result (AddsPart (K.taken k.old) (K.taken k.new) (lines.instrument_line format net.now inst)) }
+    ensures whole { OnOk result
+        (Adds (K.taken k.old) (K.taken k.new) (lines.instrument_line format net.now inst)) }
+    ensures part { OnErr result
+        (AddsPart (K.taken k.old) (K.taken k.new) (lines.instrument_line format net.now inst)) }
     ensures cause { HasCause (K.faults k.old) (K.faults k.new) result StoreFault.Failed }
 {
     put_either(format, b"instrument ", b"{\"instrument\":\"", k)?;
@@ -194,8 +209,10 @@ pub(crate) fn put_instruments<K: Sink>(
     k: &mut K,
 ) -> Result<(), StoreFault>
     requires well_formed { IsNet net.now }
-    ensures whole { OnOk result (Adds (K.taken k.old) (K.taken k.new) (lines_from (lines.instrument_line format net.now) 0 (length net.now.insts.items))) }
-    ensures part { OnErr result (AddsPart (K.taken k.old) (K.taken k.new) (lines_from (lines.instrument_line format net.now) 0 (length net.now.insts.items))) }
+    ensures whole { OnOk result (Adds (K.taken k.old) (K.taken k.new)
+        (lines_from (lines.instrument_line format net.now) 0 (length net.now.insts.items))) }
+    ensures part { OnErr result (AddsPart (K.taken k.old) (K.taken k.new)
+        (lines_from (lines.instrument_line format net.now) 0 (length net.now.insts.items))) }
     ensures cause { HasCause (K.faults k.old) (K.faults k.new) result StoreFault.Failed }
 {
     let count = inst_count(net);

@@ -24,10 +24,11 @@ pub use register::{put_reset, put_selected, put_width, selected_by};
 pub use values::put_values;
 pub use whole::put_list;
 
-/// What is proved of the numbers of scans in a listing: it carries no code, its clause says what holds of the definitions.
+/// What is proved of the numbers of scans in a listing: it carries no code, its clause says what holds of the
+/// definitions.
 ///
-/// No sequence of scans from power-up on brings a register onto the active path sooner than the listing says, and one
-/// brings it there as soon (IEEE 1687-2014: active scan path).
+/// No sequence of scans from power-up on brings a register onto the active path sooner than the listing says,
+/// and one brings it there as soon (IEEE 1687-2014: active scan path).
 pub fn list_law()
     ensures fewest { ScansAreFewest }
 {}

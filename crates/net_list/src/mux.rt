@@ -27,8 +27,10 @@ fn put_bit<K: Sink>(
 ) -> Result<(), StoreFault>
     requires well_formed { IsNet net.now }
     requires there { bit.reg < length net.now.regs.items }
-    ensures whole { OnOk result (Adds (K.taken k.old) (K.taken k.new) (before.now ++ lines.quoted format (drivers.bit_name net.now bit))) }
-    ensures part { OnErr result (AddsPart (K.taken k.old) (K.taken k.new) (before.now ++ lines.quoted format (drivers.bit_name net.now bit))) }
+    ensures whole { OnOk result (Adds (K.taken k.old) (K.taken k.new)
+        (before.now ++ lines.quoted format (drivers.bit_name net.now bit))) }
+    ensures part { OnErr result (AddsPart (K.taken k.old) (K.taken k.new)
+        (before.now ++ lines.quoted format (drivers.bit_name net.now bit))) }
     ensures cause { HasCause (K.faults k.old) (K.faults k.new) result StoreFault.Failed }
 {
     k.write(before)?;
@@ -55,8 +57,10 @@ fn put_select_bits<K: Sink>(
 ) -> Result<(), StoreFault>
     requires well_formed { IsNet net.now }
     requires there { All (λ b. b.reg < length net.now.regs.items) bits.now }
-    ensures whole { OnOk result (Adds (K.taken k.old) (K.taken k.new) (lines.select_bits format net.now [] bits.now (length bits.now))) }
-    ensures part { OnErr result (AddsPart (K.taken k.old) (K.taken k.new) (lines.select_bits format net.now [] bits.now (length bits.now))) }
+    ensures whole { OnOk result (Adds (K.taken k.old) (K.taken k.new)
+        (lines.select_bits format net.now [] bits.now (length bits.now))) }
+    ensures part { OnErr result (AddsPart (K.taken k.old) (K.taken k.new)
+        (lines.select_bits format net.now [] bits.now (length bits.now))) }
     ensures cause { HasCause (K.faults k.old) (K.faults k.new) result StoreFault.Failed }
 {
     let between = either(format, b" ", b",");
@@ -68,7 +72,8 @@ fn put_select_bits<K: Sink>(
     Ok(())
 }
 
-/// Writes the select bits of a mux, the highest first. The refusals are those of the sink, which then took some first bytes.
+/// Writes the select bits of a mux, the highest first. The refusals are those of the sink, which then took
+/// some first bytes.
 pub fn put_selects<K: Sink>(
     format: ListFormat,
     net: &Net,
@@ -77,8 +82,10 @@ pub fn put_selects<K: Sink>(
 ) -> Result<(), StoreFault>
     requires well_formed { IsNet net.now }
     requires there { mux < length net.now.muxes.items }
-    ensures whole { OnOk result (Adds (K.taken k.old) (K.taken k.new) (lines.selects_of_text format net.now mux)) }
-    ensures part { OnErr result (AddsPart (K.taken k.old) (K.taken k.new) (lines.selects_of_text format net.now mux)) }
+    ensures whole { OnOk result
+        (Adds (K.taken k.old) (K.taken k.new) (lines.selects_of_text format net.now mux)) }
+    ensures part { OnErr result
+        (AddsPart (K.taken k.old) (K.taken k.new) (lines.selects_of_text format net.now mux)) }
     ensures cause { HasCause (K.faults k.old) (K.faults k.new) result StoreFault.Failed }
 {
     let bits = net.muxes.get(mux as usize).select.as_slice();
@@ -90,7 +97,8 @@ fn put_mux_equals<K: Sink>(net: &Net, mux: u32, k: &mut K) -> Result<(), StoreFa
     requires well_formed { IsNet net.now }
     requires there { mux < length net.now.muxes.items }
     ensures whole { OnOk result (Adds (K.taken k.old) (K.taken k.new) (mux_path net.now mux ++ codes "=")) }
-    ensures part { OnErr result (AddsPart (K.taken k.old) (K.taken k.new) (mux_path net.now mux ++ codes "=")) }
+    ensures part { OnErr result
+        (AddsPart (K.taken k.old) (K.taken k.new) (mux_path net.now mux ++ codes "=")) }
     ensures cause { HasCause (K.faults k.old) (K.faults k.new) result StoreFault.Failed }
 {
     put_mux_path(net, mux, k)?;
@@ -107,8 +115,10 @@ fn put_row_name<K: Sink>(
 ) -> Result<(), StoreFault>
     requires well_formed { IsNet net.now }
     requires there { mux < length net.now.muxes.items }
-    ensures whole { OnOk result (Adds (K.taken k.old) (K.taken k.new) (forms.either format (mux_path net.now mux ++ codes "=") [])) }
-    ensures part { OnErr result (AddsPart (K.taken k.old) (K.taken k.new) (forms.either format (mux_path net.now mux ++ codes "=") [])) }
+    ensures whole { OnOk result
+        (Adds (K.taken k.old) (K.taken k.new) (forms.either format (mux_path net.now mux ++ codes "=") [])) }
+    ensures part { OnErr result (AddsPart (K.taken k.old) (K.taken k.new)
+        (forms.either format (mux_path net.now mux ++ codes "=") [])) }
     ensures cause { HasCause (K.faults k.old) (K.faults k.new) result StoreFault.Failed }
 {
     match format {
@@ -128,8 +138,10 @@ fn put_row<K: Sink>(
 ) -> Result<(), StoreFault>
     requires well_formed { IsNet net.now }
     requires there { mux < length net.now.muxes.items }
-    ensures whole { OnOk result (Adds (K.taken k.old) (K.taken k.new) (before.now ++ lines.row_text format net.now mux row.now)) }
-    ensures part { OnErr result (AddsPart (K.taken k.old) (K.taken k.new) (before.now ++ lines.row_text format net.now mux row.now)) }
+    ensures whole { OnOk result
+        (Adds (K.taken k.old) (K.taken k.new) (before.now ++ lines.row_text format net.now mux row.now)) }
+    ensures part { OnErr result
+        (AddsPart (K.taken k.old) (K.taken k.new) (before.now ++ lines.row_text format net.now mux row.now)) }
     ensures cause { HasCause (K.faults k.old) (K.faults k.new) result StoreFault.Failed }
 {
     let values = row.values.as_slice();
@@ -152,8 +164,10 @@ fn put_row_list<K: Sink>(
 ) -> Result<(), StoreFault>
     requires well_formed { IsNet net.now }
     requires there { mux < length net.now.muxes.items }
-    ensures whole { OnOk result (Adds (K.taken k.old) (K.taken k.new) (forms.items (lines.row_text format net.now mux) between.now [] rows.now)) }
-    ensures part { OnErr result (AddsPart (K.taken k.old) (K.taken k.new) (forms.items (lines.row_text format net.now mux) between.now [] rows.now)) }
+    ensures whole { OnOk result (Adds (K.taken k.old) (K.taken k.new)
+        (forms.items (lines.row_text format net.now mux) between.now [] rows.now)) }
+    ensures part { OnErr result (AddsPart (K.taken k.old) (K.taken k.new)
+        (forms.items (lines.row_text format net.now mux) between.now [] rows.now)) }
     ensures cause { HasCause (K.faults k.old) (K.faults k.new) result StoreFault.Failed }
 {
     let mut before: &[u8] = b"";
@@ -164,8 +178,8 @@ fn put_row_list<K: Sink>(
     Ok(())
 }
 
-/// Writes the select values of the rows of a mux, each row on a line in text. The refusals are those of the sink, which then took
-/// some first bytes.
+/// Writes the select values of the rows of a mux, each row on a line in text. The refusals are those of the
+/// sink, which then took some first bytes.
 pub fn put_rows<K: Sink>(
     format: ListFormat,
     net: &Net,
@@ -175,7 +189,8 @@ pub fn put_rows<K: Sink>(
     requires well_formed { IsNet net.now }
     requires there { mux < length net.now.muxes.items }
     ensures whole { OnOk result (Adds (K.taken k.old) (K.taken k.new) (lines.rows_text format net.now mux)) }
-    ensures part { OnErr result (AddsPart (K.taken k.old) (K.taken k.new) (lines.rows_text format net.now mux)) }
+    ensures part { OnErr result
+        (AddsPart (K.taken k.old) (K.taken k.new) (lines.rows_text format net.now mux)) }
     ensures cause { HasCause (K.faults k.old) (K.faults k.new) result StoreFault.Failed }
 {
     let rows = net.muxes.get(mux as usize).rows.as_slice();
@@ -190,8 +205,10 @@ fn put_row_count<K: Sink>(
     k: &mut K,
 ) -> Result<(), StoreFault>
     requires { mux < length net.now.muxes.items }
-    ensures whole { OnOk result (Adds (K.taken k.old) (K.taken k.new) (lines.row_count_text format net.now mux)) }
-    ensures part { OnErr result (AddsPart (K.taken k.old) (K.taken k.new) (lines.row_count_text format net.now mux)) }
+    ensures whole { OnOk result
+        (Adds (K.taken k.old) (K.taken k.new) (lines.row_count_text format net.now mux)) }
+    ensures part { OnErr result
+        (AddsPart (K.taken k.old) (K.taken k.new) (lines.row_count_text format net.now mux)) }
     ensures cause { HasCause (K.faults k.old) (K.faults k.new) result StoreFault.Failed }
 {
     let rows = net.muxes.get(mux as usize).rows.len();
@@ -208,8 +225,10 @@ fn put_text<K: Sink>(
 ) -> Result<(), StoreFault>
     requires well_formed { IsNet net.now }
     requires there { mux < length net.now.muxes.items }
-    ensures whole { OnOk result (Adds (K.taken k.old) (K.taken k.new) (lines.mux_text format net.now mux depth)) }
-    ensures part { OnErr result (AddsPart (K.taken k.old) (K.taken k.new) (lines.mux_text format net.now mux depth)) }
+    ensures whole { OnOk result
+        (Adds (K.taken k.old) (K.taken k.new) (lines.mux_text format net.now mux depth)) }
+    ensures part { OnErr result
+        (AddsPart (K.taken k.old) (K.taken k.new) (lines.mux_text format net.now mux depth)) }
     ensures cause { HasCause (K.faults k.old) (K.faults k.new) result StoreFault.Failed }
 {
     put_either(format, b"mux ", b"{\"mux\":\"", k)?;
@@ -234,8 +253,10 @@ fn put_mux<K: Sink>(
 ) -> Result<(), StoreFault>
     requires well_formed { IsNet net.now }
     requires there { mux < length net.now.muxes.items }
-    ensures whole { OnOk result (Adds (K.taken k.old) (K.taken k.new) (lines.mux_line format net.now tree.now mux)) }
-    ensures part { OnErr result (AddsPart (K.taken k.old) (K.taken k.new) (lines.mux_line format net.now tree.now mux)) }
+    ensures whole { OnOk result
+        (Adds (K.taken k.old) (K.taken k.new) (lines.mux_line format net.now tree.now mux)) }
+    ensures part { OnErr result
+        (AddsPart (K.taken k.old) (K.taken k.new) (lines.mux_line format net.now tree.now mux)) }
     ensures cause { HasCause (K.faults k.old) (K.faults k.new) result StoreFault.Failed }
 {
     let depth = tree.place_of_mux(mux).len();
@@ -258,8 +279,10 @@ pub(crate) fn put_muxes<K: Sink>(
     k: &mut K,
 ) -> Result<(), StoreFault>
     requires well_formed { IsNet net.now }
-    ensures whole { OnOk result (Adds (K.taken k.old) (K.taken k.new) (lines_from (lines.mux_line format net.now tree.now) 0 (length net.now.muxes.items))) }
-    ensures part { OnErr result (AddsPart (K.taken k.old) (K.taken k.new) (lines_from (lines.mux_line format net.now tree.now) 0 (length net.now.muxes.items))) }
+    ensures whole { OnOk result (Adds (K.taken k.old) (K.taken k.new)
+        (lines_from (lines.mux_line format net.now tree.now) 0 (length net.now.muxes.items))) }
+    ensures part { OnErr result (AddsPart (K.taken k.old) (K.taken k.new)
+        (lines_from (lines.mux_line format net.now tree.now) 0 (length net.now.muxes.items))) }
     ensures cause { HasCause (K.faults k.old) (K.faults k.new) result StoreFault.Failed }
 {
     let count = mux_count(net);

@@ -66,7 +66,8 @@ pub fn put_register_path<K: Sink>(net: &Net, reg: u32, k: &mut K) -> Result<(), 
     requires well_formed { IsNet net.now }
     requires there { reg < length net.now.regs.items }
     ensures whole { OnOk result (Adds (K.taken k.old) (K.taken k.new) (drivers.register_path net.now reg)) }
-    ensures part { OnErr result (AddsPart (K.taken k.old) (K.taken k.new) (drivers.register_path net.now reg)) }
+    ensures part { OnErr result
+        (AddsPart (K.taken k.old) (K.taken k.new) (drivers.register_path net.now reg)) }
     ensures cause { HasCause (K.faults k.old) (K.faults k.new) result StoreFault.Failed }
 {
     put_thing_path(net, thing_of(net, reg), k)
@@ -87,8 +88,8 @@ pub(crate) fn put_open_name<K: Sink>(net: &Net, bit: BitId, k: &mut K) -> Result
     Ok(())
 }
 
-/// Writes the path of a register and the index of a bit in brackets. The refusals are those of the sink, which then took some first
-/// bytes.
+/// Writes the path of a register and the index of a bit in brackets. The refusals are those of the sink,
+/// which then took some first bytes.
 pub fn put_bit_name<K: Sink>(net: &Net, bit: BitId, k: &mut K) -> Result<(), StoreFault>
     requires well_formed { IsNet net.now }
     requires there { bit.reg < length net.now.regs.items }
@@ -111,8 +112,10 @@ pub(crate) fn put_mux_name<K: Sink>(
 ) -> Result<(), StoreFault>
     requires well_formed { IsNet net.now }
     requires there { mux < length net.now.muxes.items }
-    ensures whole { OnOk result (Adds (K.taken k.old) (K.taken k.new) (before.now ++ quoted format (mux_path net.now mux))) }
-    ensures part { OnErr result (AddsPart (K.taken k.old) (K.taken k.new) (before.now ++ quoted format (mux_path net.now mux))) }
+    ensures whole { OnOk result
+        (Adds (K.taken k.old) (K.taken k.new) (before.now ++ quoted format (mux_path net.now mux))) }
+    ensures part { OnErr result
+        (AddsPart (K.taken k.old) (K.taken k.new) (before.now ++ quoted format (mux_path net.now mux))) }
     ensures cause { HasCause (K.faults k.old) (K.faults k.new) result StoreFault.Failed }
 {
     k.write(before)?;

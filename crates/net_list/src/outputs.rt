@@ -61,7 +61,8 @@ fn index_of_thing(thing: &Thing, pos: u32) -> u64
     index_between(thing.left, thing.right, pos)
 }
 
-/// The index at a position of the port of a node, of this name and of so many bits, and the position where there is none.
+/// The index at a position of the port of a node, of this name and of so many bits, and the position where
+/// there is none.
 fn index_in(things: &[Thing], node: u32, name: &[u8], width: u32, pos: u32) -> u64
     ensures { result ≡ outputs.index_in things.now node name.now width pos }
 {
@@ -73,8 +74,9 @@ fn index_in(things: &[Thing], node: u32, name: &[u8], width: u32, pos: u32) -> u
     u64::from(pos)
 }
 
-/// The index that a position of an output of an instrument has in the ICL text (IEEE 1687-2014, ICL: `DataOutPort`); the
-/// position itself where the network tells no such port of as many bits. Position 0 is the right index. Takes no memory.
+/// The index that a position of an output of an instrument has in the ICL text (IEEE 1687-2014, ICL:
+/// `DataOutPort`); the position itself where the network tells no such port of as many bits. Position 0 is
+/// the right index. Takes no memory.
 pub fn output_index(net: &Net, inst: u32, port: u32, pos: u32) -> u64
     requires well_formed { IsNet net.now }
     requires inst { inst < length net.now.insts.items }
@@ -87,14 +89,16 @@ pub fn output_index(net: &Net, inst: u32, port: u32, pos: u32) -> u64
     index_in(net.things.as_slice(), node, name, width, pos)
 }
 
-/// Writes the path of an output of an instrument: that of the instrument, a dot and the port's name (IEEE 1687-2014, ICL:
-/// `DataOutPort`). The refusals are those of the sink, which then took some first bytes.
+/// Writes the path of an output of an instrument: that of the instrument, a dot and the port's name (IEEE
+/// 1687-2014, ICL: `DataOutPort`). The refusals are those of the sink, which then took some first bytes.
 pub fn put_output<K: Sink>(net: &Net, inst: u32, port: u32, k: &mut K) -> Result<(), StoreFault>
     requires well_formed { IsNet net.now }
     requires inst { inst < length net.now.insts.items }
     requires port { port < length (named.output_widths net.now inst) }
-    ensures whole { OnOk result (Adds (K.taken k.old) (K.taken k.new) (outputs.output_path net.now inst port)) }
-    ensures part { OnErr result (AddsPart (K.taken k.old) (K.taken k.new) (outputs.output_path net.now inst port)) }
+    ensures whole { OnOk result
+        (Adds (K.taken k.old) (K.taken k.new) (outputs.output_path net.now inst port)) }
+    ensures part { OnErr result
+        (AddsPart (K.taken k.old) (K.taken k.new) (outputs.output_path net.now inst port)) }
     ensures cause { HasCause (K.faults k.old) (K.faults k.new) result StoreFault.Failed }
 {
     put_instance_path(net, node_of(net, inst), k)?;

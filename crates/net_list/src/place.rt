@@ -27,8 +27,10 @@ fn values_of(net: &Net, branch: Branch) -> &[Tern]
 /// Writes the select values of a row.
 fn put_row_values<K: Sink>(net: &Net, branch: Branch, k: &mut K) -> Result<(), StoreFault>
     requires { IsBranchOf net.now branch }
-    ensures whole { OnOk result (Adds (K.taken k.old) (K.taken k.new) (forms.values_text (values_of net.now branch))) }
-    ensures part { OnErr result (AddsPart (K.taken k.old) (K.taken k.new) (forms.values_text (values_of net.now branch))) }
+    ensures whole { OnOk result
+        (Adds (K.taken k.old) (K.taken k.new) (forms.values_text (values_of net.now branch))) }
+    ensures part { OnErr result
+        (AddsPart (K.taken k.old) (K.taken k.new) (forms.values_text (values_of net.now branch))) }
     ensures cause { HasCause (K.faults k.old) (K.faults k.new) result StoreFault.Failed }
 {
     put_values(values_of(net, branch), k)
@@ -43,8 +45,10 @@ fn put_row<K: Sink>(
 ) -> Result<(), StoreFault>
     requires well_formed { IsNet net.now }
     requires there { IsBranchOf net.now branch }
-    ensures whole { OnOk result (Adds (K.taken k.old) (K.taken k.new) (lines.branch_text format net.now branch)) }
-    ensures part { OnErr result (AddsPart (K.taken k.old) (K.taken k.new) (lines.branch_text format net.now branch)) }
+    ensures whole { OnOk result
+        (Adds (K.taken k.old) (K.taken k.new) (lines.branch_text format net.now branch)) }
+    ensures part { OnErr result
+        (AddsPart (K.taken k.old) (K.taken k.new) (lines.branch_text format net.now branch)) }
     ensures cause { HasCause (K.faults k.old) (K.faults k.new) result StoreFault.Failed }
 {
     put_either(format, b"", b"[\"", k)?;
@@ -65,8 +69,10 @@ fn put_next_row<K: Sink>(
 ) -> Result<(), StoreFault>
     requires well_formed { IsNet net.now }
     requires there { IsBranchOf net.now branch }
-    ensures whole { OnOk result (Adds (K.taken k.old) (K.taken k.new) (before.now ++ lines.branch_text format net.now branch)) }
-    ensures part { OnErr result (AddsPart (K.taken k.old) (K.taken k.new) (before.now ++ lines.branch_text format net.now branch)) }
+    ensures whole { OnOk result
+        (Adds (K.taken k.old) (K.taken k.new) (before.now ++ lines.branch_text format net.now branch)) }
+    ensures part { OnErr result
+        (AddsPart (K.taken k.old) (K.taken k.new) (before.now ++ lines.branch_text format net.now branch)) }
     ensures cause { HasCause (K.faults k.old) (K.faults k.new) result StoreFault.Failed }
 {
     k.write(before)?;
@@ -85,8 +91,10 @@ fn put_rows<K: Sink>(
 ) -> Result<(), StoreFault>
     requires well_formed { IsNet net.now }
     requires there { All (IsBranchOf net.now) place.now }
-    ensures whole { OnOk result (Adds (K.taken k.old) (K.taken k.new) (forms.items (lines.branch_text format net.now) between.now first.now place.now)) }
-    ensures part { OnErr result (AddsPart (K.taken k.old) (K.taken k.new) (forms.items (lines.branch_text format net.now) between.now first.now place.now)) }
+    ensures whole { OnOk result (Adds (K.taken k.old) (K.taken k.new)
+        (forms.items (lines.branch_text format net.now) between.now first.now place.now)) }
+    ensures part { OnErr result (AddsPart (K.taken k.old) (K.taken k.new)
+        (forms.items (lines.branch_text format net.now) between.now first.now place.now)) }
     ensures cause { HasCause (K.faults k.old) (K.faults k.new) result StoreFault.Failed }
 {
     let mut before = first;
@@ -106,8 +114,10 @@ pub(crate) fn put_place<K: Sink>(
 ) -> Result<(), StoreFault>
     requires well_formed { IsNet net.now }
     requires there { All (IsBranchOf net.now) place.now }
-    ensures whole { OnOk result (Adds (K.taken k.old) (K.taken k.new) (lines.place_text format net.now place.now)) }
-    ensures part { OnErr result (AddsPart (K.taken k.old) (K.taken k.new) (lines.place_text format net.now place.now)) }
+    ensures whole { OnOk result
+        (Adds (K.taken k.old) (K.taken k.new) (lines.place_text format net.now place.now)) }
+    ensures part { OnErr result
+        (AddsPart (K.taken k.old) (K.taken k.new) (lines.place_text format net.now place.now)) }
     ensures cause { HasCause (K.faults k.old) (K.faults k.new) result StoreFault.Failed }
 {
     let between = either(format, b" ", b",");

@@ -80,8 +80,10 @@ fn put_muxes<K: Sink>(
 ) -> Result<(), StoreFault>
     requires well_formed { IsNet net.now }
     requires there { All (λ m. m < length net.now.muxes.items) muxes.now }
-    ensures whole { OnOk result (Adds (K.taken k.old) (K.taken k.new) (forms.items (λ m. lines.quoted format (mux_path net.now m)) between.now first.now muxes.now)) }
-    ensures part { OnErr result (AddsPart (K.taken k.old) (K.taken k.new) (forms.items (λ m. lines.quoted format (mux_path net.now m)) between.now first.now muxes.now)) }
+    ensures whole { OnOk result (Adds (K.taken k.old) (K.taken k.new)
+        (forms.items (λ m. lines.quoted format (mux_path net.now m)) between.now first.now muxes.now)) }
+    ensures part { OnErr result (AddsPart (K.taken k.old) (K.taken k.new)
+        (forms.items (λ m. lines.quoted format (mux_path net.now m)) between.now first.now muxes.now)) }
     ensures cause { HasCause (K.faults k.old) (K.faults k.new) result StoreFault.Failed }
 {
     let mut before = first;
@@ -92,7 +94,8 @@ fn put_muxes<K: Sink>(
     Ok(())
 }
 
-/// Writes the muxes in which a register selects. The refusals are those of the sink, which then took some first bytes.
+/// Writes the muxes in which a register selects. The refusals are those of the sink, which then took some
+/// first bytes.
 pub fn put_selected<K: Sink>(
     format: ListFormat,
     net: &Net,
@@ -103,8 +106,10 @@ pub fn put_selected<K: Sink>(
     requires well_formed { IsNet net.now }
     requires there { All (λ m. m < length net.now.muxes.items) muxes.now }
     requires muxes { muxes.now ≡ lines.selected_by net.now reg }
-    ensures whole { OnOk result (Adds (K.taken k.old) (K.taken k.new) (lines.selects_text format net.now reg)) }
-    ensures part { OnErr result (AddsPart (K.taken k.old) (K.taken k.new) (lines.selects_text format net.now reg)) }
+    ensures whole { OnOk result
+        (Adds (K.taken k.old) (K.taken k.new) (lines.selects_text format net.now reg)) }
+    ensures part { OnErr result
+        (AddsPart (K.taken k.old) (K.taken k.new) (lines.selects_text format net.now reg)) }
     ensures cause { HasCause (K.faults k.old) (K.faults k.new) result StoreFault.Failed }
 {
     let between = either(format, b" ", b",");
@@ -124,15 +129,16 @@ pub fn put_width<K: Sink>(
 ) -> Result<(), StoreFault>
     requires { reg < length net.now.regs.items }
     ensures whole { OnOk result (Adds (K.taken k.old) (K.taken k.new) (lines.width_text format net.now reg)) }
-    ensures part { OnErr result (AddsPart (K.taken k.old) (K.taken k.new) (lines.width_text format net.now reg)) }
+    ensures part { OnErr result
+        (AddsPart (K.taken k.old) (K.taken k.new) (lines.width_text format net.now reg)) }
     ensures cause { HasCause (K.faults k.old) (K.faults k.new) result StoreFault.Failed }
 {
     let width = net.regs.get(reg as usize).width;
     put_count(format, b" bits ", b"\",\"bits\":", width as u64, k)
 }
 
-/// Writes the reset value of a register, the highest position first. The refusals are those of the sink, which then took some first
-/// bytes.
+/// Writes the reset value of a register, the highest position first. The refusals are those of the sink,
+/// which then took some first bytes.
 pub fn put_reset<K: Sink>(net: &Net, reg: u32, k: &mut K) -> Result<(), StoreFault>
     requires { reg < length net.now.regs.items }
     ensures whole { OnOk result (Adds (K.taken k.old) (K.taken k.new) (lines.reset_text net.now reg)) }
@@ -143,7 +149,8 @@ pub fn put_reset<K: Sink>(net: &Net, reg: u32, k: &mut K) -> Result<(), StoreFau
     put_digits(value, value.len(), k)
 }
 
-/// Writes the line of a register that stands in these rows, selects in these muxes and is reached in so many scans.
+/// Writes the line of a register that stands in these rows, selects in these muxes and is reached in so many
+/// scans.
 fn put_text<K: Sink>(
     format: ListFormat,
     net: &Net,
@@ -158,8 +165,10 @@ fn put_text<K: Sink>(
     requires rows { All (IsBranchOf net.now) place.now }
     requires listed { All (λ m. m < length net.now.muxes.items) muxes.now }
     requires muxes { muxes.now ≡ lines.selected_by net.now reg }
-    ensures whole { OnOk result (Adds (K.taken k.old) (K.taken k.new) (lines.register_text format net.now reg place.now scans)) }
-    ensures part { OnErr result (AddsPart (K.taken k.old) (K.taken k.new) (lines.register_text format net.now reg place.now scans)) }
+    ensures whole { OnOk result
+        (Adds (K.taken k.old) (K.taken k.new) (lines.register_text format net.now reg place.now scans)) }
+    ensures part { OnErr result
+        (AddsPart (K.taken k.old) (K.taken k.new) (lines.register_text format net.now reg place.now scans)) }
     ensures cause { HasCause (K.faults k.old) (K.faults k.new) result StoreFault.Failed }
 {
     let depth = place.len() as u64;
@@ -191,8 +200,10 @@ fn put_register<K: Sink>(
     requires lawful { IsLawful net.now tree.now }
     requires start { start.now ≡ start_holds net.now }
     requires there { reg < length net.now.regs.items }
-    ensures whole { OnOk result (Adds (K.taken k.old) (K.taken k.new) (lines.register_line format net.now tree.now reg)) }
-    ensures part { OnErr result (AddsPart (K.taken k.old) (K.taken k.new) (lines.register_line format net.now tree.now reg)) }
+    ensures whole { OnOk result
+        (Adds (K.taken k.old) (K.taken k.new) (lines.register_line format net.now tree.now reg)) }
+    ensures part { OnErr result
+        (AddsPart (K.taken k.old) (K.taken k.new) (lines.register_line format net.now tree.now reg)) }
     ensures cause { HasCause (K.faults k.old) (K.faults k.new) result StoreFault.Failed }
 {
     let place = tree.place_of(reg);
@@ -220,8 +231,10 @@ pub(crate) fn put_registers<K: Sink>(
     requires well_formed { IsNet net.now }
     requires form { Describes net.now tree.now }
     requires lawful { IsLawful net.now tree.now }
-    ensures whole { OnOk result (Adds (K.taken k.old) (K.taken k.new) (lines_from (lines.register_line format net.now tree.now) 0 (length net.now.regs.items))) }
-    ensures part { OnErr result (AddsPart (K.taken k.old) (K.taken k.new) (lines_from (lines.register_line format net.now tree.now) 0 (length net.now.regs.items))) }
+    ensures whole { OnOk result (Adds (K.taken k.old) (K.taken k.new)
+        (lines_from (lines.register_line format net.now tree.now) 0 (length net.now.regs.items))) }
+    ensures part { OnErr result (AddsPart (K.taken k.old) (K.taken k.new)
+        (lines_from (lines.register_line format net.now tree.now) 0 (length net.now.regs.items))) }
     ensures cause { HasCause (K.faults k.old) (K.faults k.new) result StoreFault.Failed }
 {
     let start = Holds::power_up(alloc, net)?;

@@ -62,8 +62,10 @@ fn put_line<K: Sink>(
     path: u32,
     k: &mut K,
 ) -> Result<(), StoreFault>
-    ensures whole { OnOk result (Adds (K.taken k.old) (K.taken k.new) (listing.totals_text format regs bits muxes insts path)) }
-    ensures part { OnErr result (AddsPart (K.taken k.old) (K.taken k.new) (listing.totals_text format regs bits muxes insts path)) }
+    ensures whole { OnOk result
+        (Adds (K.taken k.old) (K.taken k.new) (listing.totals_text format regs bits muxes insts path)) }
+    ensures part { OnErr result
+        (AddsPart (K.taken k.old) (K.taken k.new) (listing.totals_text format regs bits muxes insts path)) }
     ensures cause { HasCause (K.faults k.old) (K.faults k.new) result StoreFault.Failed }
 {
     put_count(
@@ -96,7 +98,8 @@ pub(crate) fn put_totals<K: Sink>(
 ) -> Result<(), StoreFault>
     requires { IsNet net.now }
     ensures whole { OnOk result (Adds (K.taken k.old) (K.taken k.new) (listing.totals_line format net.now)) }
-    ensures part { OnErr result (AddsPart (K.taken k.old) (K.taken k.new) (listing.totals_line format net.now)) }
+    ensures part { OnErr result
+        (AddsPart (K.taken k.old) (K.taken k.new) (listing.totals_line format net.now)) }
     ensures cause { HasCause (K.faults k.old) (K.faults k.new) result StoreFault.Failed }
 {
     let path = start_path_bits(alloc, net)?;

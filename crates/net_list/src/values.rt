@@ -25,7 +25,8 @@ fn digit_of(value: &Tern, pos: u32) -> u8
 pub(crate) fn put_digits<K: Sink>(value: &Tern, width: u32, k: &mut K) -> Result<(), StoreFault>
     requires { width ≤ length value.now.value.items }
     ensures whole { OnOk result (Adds (K.taken k.old) (K.taken k.new) (forms.tern_digits value.now width)) }
-    ensures part { OnErr result (AddsPart (K.taken k.old) (K.taken k.new) (forms.tern_digits value.now width)) }
+    ensures part { OnErr result
+        (AddsPart (K.taken k.old) (K.taken k.new) (forms.tern_digits value.now width)) }
     ensures cause { HasCause (K.faults k.old) (K.faults k.new) result StoreFault.Failed }
 {
     for j in 0..width {
@@ -36,8 +37,10 @@ pub(crate) fn put_digits<K: Sink>(value: &Tern, width: u32, k: &mut K) -> Result
 
 /// Writes a value after something before it.
 fn put_value<K: Sink>(before: &[u8], value: &Tern, k: &mut K) -> Result<(), StoreFault>
-    ensures whole { OnOk result (Adds (K.taken k.old) (K.taken k.new) (before.now ++ forms.tern_text value.now)) }
-    ensures part { OnErr result (AddsPart (K.taken k.old) (K.taken k.new) (before.now ++ forms.tern_text value.now)) }
+    ensures whole { OnOk result
+        (Adds (K.taken k.old) (K.taken k.new) (before.now ++ forms.tern_text value.now)) }
+    ensures part { OnErr result
+        (AddsPart (K.taken k.old) (K.taken k.new) (before.now ++ forms.tern_text value.now)) }
     ensures cause { HasCause (K.faults k.old) (K.faults k.new) result StoreFault.Failed }
 {
     let width = value.len();
@@ -46,7 +49,8 @@ fn put_value<K: Sink>(before: &[u8], value: &Tern, k: &mut K) -> Result<(), Stor
     Ok(())
 }
 
-/// Writes the select values of a row, with bars between. The refusals are those of the sink, which then took some first bytes.
+/// Writes the select values of a row, with bars between. The refusals are those of the sink, which then took
+/// some first bytes.
 pub fn put_values<K: Sink>(values: &[Tern], k: &mut K) -> Result<(), StoreFault>
     ensures whole { OnOk result (Adds (K.taken k.old) (K.taken k.new) (forms.values_text values.now)) }
     ensures part { OnErr result (AddsPart (K.taken k.old) (K.taken k.new) (forms.values_text values.now)) }

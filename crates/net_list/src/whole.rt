@@ -17,18 +17,20 @@ use net_graph::Net;
 use net_tree::Tree;
 use std::alloc::Global;
 
-/// Writes what a network has, one thing a line: each register, each multiplexer and each instrument, in the network's order,
-/// and totals (IEEE 1687-2014, ICL: `ScanRegister`, `ScanMux`, `Instance`).
+/// Writes what a network has, one thing a line: each register, each multiplexer and each instrument, in the
+/// network's order, and totals (IEEE 1687-2014, ICL: `ScanRegister`, `ScanMux`, `Instance`).
 ///
-/// A register has its path, bits, reset value (the left bit first, an x where it has none), the number of rows that it
-/// stands in, the fewest scans from power-up on in which it is first written, these rows (multiplexer and select values,
-/// outermost first) and the multiplexers in which it selects; a multiplexer its rows and select values, its select bits and
-/// the number of rows around it; an instrument its data ports, and what drives its inputs. Select bits, select values and
-/// drivers begin at the left, the highest position.
+/// A register has its path, bits, reset value (the left bit first, an x where it has none), the number of
+/// rows that it stands in, the fewest scans from power-up on in which it is first written, these rows
+/// (multiplexer and select values, outermost first) and the multiplexers in which it selects; a multiplexer
+/// its rows and select values, its select bits and the number of rows around it; an instrument its data
+/// ports, and what drives its inputs. Select bits, select values and drivers begin at the left, the highest
+/// position.
 ///
 /// # Errors
 ///
-/// `Failed`, where the sink refuses a write, and want of memory. The sink then took some first bytes of the listing.
+/// `Failed`, where the sink refuses a write, and want of memory. The sink then took some first bytes of the
+/// listing.
 pub fn put_list<K: Sink>(
     alloc: Global,
     net: &Net,
@@ -40,7 +42,8 @@ pub fn put_list<K: Sink>(
     requires form { Describes net.now tree.now }
     requires lawful { IsLawful net.now tree.now }
     ensures whole { OnOk result (Adds (K.taken k.old) (K.taken k.new) (list_text format net.now tree.now)) }
-    ensures part { OnErr result (AddsPart (K.taken k.old) (K.taken k.new) (list_text format net.now tree.now)) }
+    ensures part { OnErr result
+        (AddsPart (K.taken k.old) (K.taken k.new) (list_text format net.now tree.now)) }
     ensures cause { HasCause (K.faults k.old) (K.faults k.new) result StoreFault.Failed }
 {
     put_registers(alloc, format, net, tree, k)?;

@@ -1,5 +1,6 @@
 -- The boxes and funnels of a list of items follow one another, and those of rows lie one below the other.
-use Rattle.std.proofs.Common.{◌≡◌, ◌⊎◌, inl, inr, ℕ, suc, ◌+◌, ◌-◌, ◌≤◌, Bool, true, false, List, [], ◌∷◌, ◌++◌, Option, refl, sym, ◌∙◌, subst, arith, append-nil}
+use Rattle.std.proofs.Common.{◌≡◌, ◌⊎◌, inl, inr, ℕ, suc, ◌+◌, ◌-◌, ◌≤◌, Bool, true, false, List, [], ◌∷◌}
+use Rattle.std.proofs.Common.{◌++◌, Option, refl, sym, ◌∙◌, subst, arith, append-nil}
 use Rattle.std.specs.Prelude.{All, cond, ◌&&◌}
 use Rattle.std.proofs.lemmas.List.Elements.{All-nil, All-cons, All-append, All-weaker, All-head, All-tail}
 use Rattle.net_tree.specs.Form.{Items, Nothing, RegThen, MuxThen, Rows, NoRow, RowThen}
@@ -9,10 +10,13 @@ use Rattle.net_picture.specs.declared.pen.Fan.{Fan}
 use Rattle.net_picture.specs.declared.shape.Shape.TheVariants.{Wire}
 use Rattle.net_picture.specs.Apart.{Area, area_of, areas_in, SharesNone, AreApart, IsWithin}
 use Rattle.net_picture.specs.Drawing.{first_pen, drawing_by, shapes_of}
-use Rattle.net_picture.specs.Layout.{drawn, pen_after, fan_after, rows_drawn, register_drawn, mux_drawn, pen_past, row_wire, is_row}
-use Rattle.net_picture.specs.Pens.{start_at, is_full, next_line, ready, moved, after_register, after_row, fan_at, funnel_at, after_mux}
+use Rattle.net_picture.specs.Layout.{drawn, pen_after, fan_after, rows_drawn, register_drawn, mux_drawn}
+use Rattle.net_picture.specs.Layout.{pen_past, row_wire, is_row}
+use Rattle.net_picture.specs.Pens.{start_at, is_full, next_line, ready, moved, after_register, after_row}
+use Rattle.net_picture.specs.Pens.{fan_at, funnel_at, after_mux}
 use Rattle.net_picture.specs.Plan.{Plan, box_of, mux_of}
-use Rattle.net_picture.proofs.Gathering.{IsOfThings, box_shape, funnel_shape, picked_register, picked_mux, picked_row, picked_both}
+use Rattle.net_picture.proofs.Gathering.{IsOfThings, box_shape, funnel_shape, picked_register, picked_mux}
+use Rattle.net_picture.proofs.Gathering.{picked_row, picked_both}
 
 -- ---- pens
 
@@ -32,7 +36,13 @@ record GoesOn (p q : Pen) : Type 0 where
 
 goes_on_itself : (p : Pen) → GoesOn p p
 goes_on_itself p =
-    record { left = refl; right = omega arith; down = omega arith; bottom = omega arith; on = inl (refl, omega arith) }
+    record {
+      left = refl;
+      right = omega arith;
+      down = omega arith;
+      bottom = omega arith;
+      on = inl (refl, omega arith);
+    }
 
 -- the same line twice, or a line below
 goes_on_then : (p q r : Pen) → GoesOn p q → GoesOn q r → GoesOn p r
@@ -42,7 +52,10 @@ goes_on_then p q r a b = record {
   down = omega (arith, a.down, b.down);
   bottom = omega (arith, a.bottom, b.bottom);
   on = elim a.on [
-    | inl s ↦ elim b.on [ inl t ↦ inl (s.0 ∙ t.0, omega (arith, s.1, t.1)) | inr t ↦ inr (omega (arith, a.bottom, t)) ]
+    | inl s ↦ elim b.on [
+      | inl t ↦ inl (s.0 ∙ t.0, omega (arith, s.1, t.1))
+      | inr t ↦ inr (omega (arith, a.bottom, t))
+    ]
     | inr s ↦ inr (omega (arith, s, b.down))
   ];
 }
@@ -66,7 +79,10 @@ starts_before p q g a s = record {
   left = omega (arith, g.left, s.left);
   top = omega (arith, g.down, s.top);
   after = elim g.on [
-    | inl same ↦ elim s.after [ inl x ↦ inl (omega (arith, same.1, x)) | inr y ↦ inr (omega (arith, g.bottom, y)) ]
+    | inl same ↦ elim s.after [
+      | inl x ↦ inl (omega (arith, same.1, x))
+      | inr y ↦ inr (omega (arith, g.bottom, y))
+    ]
     | inr below ↦ inr (omega (arith, below, s.top))
   ];
 }
@@ -77,7 +93,10 @@ ends_after p q g a e = record {
   right = omega (arith, g.right, e.right);
   bottom = omega (arith, g.bottom, e.bottom);
   before = elim g.on [
-    | inl same ↦ elim e.before [ inl x ↦ inl (omega (arith, same.1, x)) | inr y ↦ inr (omega (arith, same.0, y)) ]
+    | inl same ↦ elim e.before [
+      | inl x ↦ inl (omega (arith, same.1, x))
+      | inr y ↦ inr (omega (arith, same.0, y))
+    ]
     | inr below ↦ inr (omega (arith, below, e.bottom))
   ];
 }
@@ -91,15 +110,21 @@ above a b h x y s t = omega (arith, h, s.to_bottom, t.from_top)
 
 parted : (p : Pen) (a b : Area) → EndsAt p a → StartsAt p b → SharesNone a b
 parted p a b e s = elim e.before [
-  | inl x ↦ elim s.after [ inl z ↦ left_of a b (omega (arith, x, z)) | inr z ↦ above a b (omega (arith, e.bottom, z)) ]
+  | inl x ↦ elim s.after [
+    | inl z ↦ left_of a b (omega (arith, x, z))
+    | inr z ↦ above a b (omega (arith, e.bottom, z))
+  ]
   | inr y ↦ above a b (omega (arith, y, s.top))
 ]
 
 -- lists of areas that are apart
-apart_both : (xs bs : List Area) → AreApart xs → AreApart bs → All (λ a. All (SharesNone a) bs) xs → AreApart (xs ++ bs)
+apart_both : (xs bs : List Area) → AreApart xs → AreApart bs
+    → All (λ a. All (SharesNone a) bs) xs → AreApart (xs ++ bs)
 apart_both [] bs a b c = b
-apart_both (x ∷ xs) bs a b c =
-    (All-append (SharesNone x) xs bs a.0 (All-head (λ y. All (SharesNone y) bs) x xs c), apart_both xs bs a.1 b (All-tail (λ y. All (SharesNone y) bs) x xs c))
+apart_both (x ∷ xs) bs a b c = (
+  All-append (SharesNone x) xs bs a.0 (All-head (λ y. All (SharesNone y) bs) x xs c),
+  apart_both xs bs a.1 b (All-tail (λ y. All (SharesNone y) bs) x xs c),
+)
 
 -- ---- what holds of items
 
@@ -112,23 +137,43 @@ record Fits (p q : Pen) (xs : List Area) : Type 0 where
 
 fits_none : (p : Pen) → IsPen p → Fits p p []
 fits_none p h =
-    record { goes = goes_on_itself p; pen = h; starts = All-nil (StartsAt p); ends = All-nil (EndsAt p); apart = tt }
+    record {
+      goes = goes_on_itself p;
+      pen = h;
+      starts = All-nil (StartsAt p);
+      ends = All-nil (EndsAt p);
+      apart = tt;
+    }
 
 fits_then : (p q r : Pen) (xs bs : List Area) → Fits p q xs → Fits q r bs → Fits p r (xs ++ bs)
 fits_then p q r xs bs a b = record {
   goes = goes_on_then p q r a.goes b.goes;
   pen = b.pen;
-  starts = All-append (StartsAt p) xs bs a.starts (All-weaker (StartsAt q) (StartsAt p) (starts_before p q a.goes) bs b.starts);
-  ends = All-append (EndsAt r) xs bs (All-weaker (EndsAt q) (EndsAt r) (ends_after q r b.goes) xs a.ends) b.ends;
-  apart = apart_both xs bs a.apart b.apart (All-weaker (EndsAt q) (λ x. All (SharesNone x) bs) (λ x e. All-weaker (StartsAt q) (SharesNone x) (λ y s. parted q x y e s) bs b.starts) xs a.ends);
+  starts = All-append (StartsAt p) xs bs a.starts
+      (All-weaker (StartsAt q) (StartsAt p) (starts_before p q a.goes) bs b.starts);
+  ends = All-append (EndsAt r) xs bs
+      (All-weaker (EndsAt q) (EndsAt r) (ends_after q r b.goes) xs a.ends) b.ends;
+  apart = apart_both xs bs a.apart b.apart (All-weaker (EndsAt q) (λ x. All (SharesNone x) bs)
+      (λ x e. All-weaker (StartsAt q) (SharesNone x) (λ y s. parted q x y e s) bs b.starts) xs a.ends);
 }
 
 -- the next line
 ready_fits : (p : Pen) → IsPen p → Fits p (ready p) []
 ready_fits p h = elim (is_full p) as (λ (b : Bool). Fits p (cond b (next_line p) p) []) [
   | true ↦ record {
-    goes = record { left = refl; right = omega arith; down = omega (arith, h.deep); bottom = omega arith; on = inr (omega arith) };
-    pen = record { below = omega (arith, h.below, h.deep); line = omega arith; within = omega (arith, h.line, h.within); deep = omega arith };
+    goes = record {
+      left = refl;
+      right = omega arith;
+      down = omega (arith, h.deep);
+      bottom = omega arith;
+      on = inr (omega arith);
+    };
+    pen = record {
+      below = omega (arith, h.below, h.deep);
+      line = omega arith;
+      within = omega (arith, h.line, h.within);
+      deep = omega arith;
+    };
     starts = All-nil (StartsAt p);
     ends = All-nil (EndsAt (next_line p));
     apart = tt;
@@ -149,13 +194,20 @@ moved_on : (p : Pen) (x bottom : ℕ) → p.x ≤ x → GoesOn p (moved p x bott
 moved_on p x bottom le =
     record { left = refl; right = omega arith; down = omega arith; bottom = omega arith; on = inl (refl, le) }
 
-box_fits : (p : Pen) (width : ℕ) → IsPen p → Fits p (after_register p width) (record { left = p.x + 18; right = p.x + 18 + width; top = p.y - 13; bottom = p.y + 13 } ∷ [])
+box_fits : (p : Pen) (width : ℕ) → IsPen p → Fits p (after_register p width)
+    (record { left = p.x + 18; right = p.x + 18 + width; top = p.y - 13; bottom = p.y + 13 } ∷ [])
 box_fits p width h =
     let a : Area = record { left = p.x + 18; right = p.x + 18 + width; top = p.y - 13; bottom = p.y + 13 } in
     let q : Pen = after_register p width in
     let le : p.x ≤ p.x + 18 + width = omega arith in
-    let starts : StartsAt p a = record { left = omega (arith, h.line); top = omega (arith, h.below); after = inl (omega arith) } in
-    let ends : EndsAt q a = record { whole = omega (arith, h.below); right = omega arith; bottom = omega (arith, h.deep); before = inl (omega arith) } in
+    let starts : StartsAt p a =
+    record { left = omega (arith, h.line); top = omega (arith, h.below); after = inl (omega arith) } in
+    let ends : EndsAt q a = record {
+      whole = omega (arith, h.below);
+      right = omega arith;
+      bottom = omega (arith, h.deep);
+      before = inl (omega arith);
+    } in
     record {
       goes = moved_on p (p.x + 18 + width) p.bottom le;
       pen = moved_pen p (p.x + 18 + width) p.bottom h le;
@@ -196,28 +248,48 @@ start_pen : (f : Fan) → IsFan f → IsPen (start_at f.x f.y)
 start_pen f h = record { below = h.below; line = omega arith; within = omega arith; deep = omega arith }
 
 -- a row, and then the others below it
-row_fits : (f g : Fan) (p : Pen) (xs bs : List Area) → IsFan f → Fits (start_at f.x f.y) p xs → RowsFit (after_row f p) g bs → RowsFit f g (xs ++ bs)
+row_fits : (f g : Fan) (p : Pen) (xs bs : List Area) → IsFan f → Fits (start_at f.x f.y) p xs
+    → RowsFit (after_row f p) g bs → RowsFit f g (xs ++ bs)
 row_fits f g p xs bs h a b =
     let next : Fan = after_row f p in
     let down : next.bottom ≤ g.bottom = b.goes.bottom (omega arith) in
-    let upper : (x : Area) → EndsAt p x → EndsIn g x = λ x e. record { whole = e.whole; right = omega (arith, e.right, b.goes.right); bottom = omega (arith, e.bottom, down) } in
-    let lower : (x : Area) → StartsIn next x → StartsIn f x = λ x s. record { left = s.left; top = omega (arith, s.top, a.goes.bottom) } in
-    let first : (x : Area) → StartsAt (start_at f.x f.y) x → StartsIn f x = λ x s. record { left = s.left; top = s.top } in
+    let upper : (x : Area) → EndsAt p x → EndsIn g x = λ x e. record {
+      whole = e.whole;
+      right = omega (arith, e.right, b.goes.right);
+      bottom = omega (arith, e.bottom, down);
+    } in
+    let lower : (x : Area) → StartsIn next x
+    → StartsIn f x = λ x s. record { left = s.left; top = omega (arith, s.top, a.goes.bottom) } in
+    let first : (x : Area) → StartsAt (start_at f.x f.y) x
+    → StartsIn f x = λ x s. record { left = s.left; top = s.top } in
     record {
-      goes = record { x = b.goes.x; right = omega (arith, b.goes.right); bottom = λ small. omega (arith, small, a.goes.bottom, down) };
+      goes = record {
+        x = b.goes.x;
+        right = omega (arith, b.goes.right);
+        bottom = λ small. omega (arith, small, a.goes.bottom, down);
+      };
       fan = b.fan;
-      starts = All-append (StartsIn f) xs bs (All-weaker (StartsAt (start_at f.x f.y)) (StartsIn f) first xs a.starts) (All-weaker (StartsIn next) (StartsIn f) lower bs b.starts);
+      starts = All-append (StartsIn f) xs bs (All-weaker (StartsAt (start_at f.x f.y))
+          (StartsIn f) first xs a.starts) (All-weaker (StartsIn next) (StartsIn f) lower bs b.starts);
       ends = All-append (EndsIn g) xs bs (All-weaker (EndsAt p) (EndsIn g) upper xs a.ends) b.ends;
-      apart = apart_both xs bs a.apart b.apart (All-weaker (EndsAt p) (λ x. All (SharesNone x) bs) (λ x e. All-weaker (StartsIn next) (SharesNone x) (λ y s. above x y (omega (arith, e.bottom, s.top))) bs b.starts) xs a.ends);
+      apart = apart_both xs bs a.apart b.apart
+          (All-weaker (EndsAt p) (λ x. All (SharesNone x) bs) (λ x e. All-weaker (StartsIn next)
+          (SharesNone x) (λ y s. above x y (omega (arith, e.bottom, s.top))) bs b.starts) xs a.ends);
     }
 
-next_fan : (f : Fan) (p : Pen) (xs : List Area) → IsFan f → Fits (start_at f.x f.y) p xs → IsFan (after_row f p)
+next_fan : (f : Fan) (p : Pen) (xs : List Area) → IsFan f
+    → Fits (start_at f.x f.y) p xs → IsFan (after_row f p)
 next_fan f p xs h a =
     record { below = omega arith; within = omega (arith, h.within); deep = a.pen.deep }
 
 -- a multiplexer: its rows, and then its funnel
 mux_fits : (p : Pen) (g : Fan) (values name : ℕ) (xs : List Area) → IsPen p → RowsFit (fan_at p) g xs
-    → Fits p (after_mux p g values name) (xs ++ record { left = funnel_at g values; right = funnel_at g values + 14; top = p.y - 13; bottom = p.y + (g.last - p.y) + 13 } ∷ [])
+    → Fits p (after_mux p g values name) (xs ++ record {
+      left = funnel_at g values;
+      right = funnel_at g values + 14;
+      top = p.y - 13;
+      bottom = p.y + (g.last - p.y) + 13;
+    } ∷ [])
 mux_fits p g values name xs h r =
     let x : ℕ = funnel_at g values in
     let end : ℕ = x + 14 + name in
@@ -225,17 +297,36 @@ mux_fits p g values name xs h r =
     let a : Area = record { left = x; right = x + 14; top = p.y - 13; bottom = p.y + (g.last - p.y) + 13 } in
     let wide : p.x + 34 ≤ g.right = omega (arith, r.goes.right) in
     let le : p.x ≤ end = omega (arith, wide) in
-    let from : (y : Area) → StartsIn (fan_at p) y → StartsAt p y = λ y s. record { left = omega (arith, h.line, s.left); top = s.top; after = inl (omega (arith, s.left)) } in
-    let upto : (y : Area) → EndsIn g y → EndsAt q y = λ y e. record { whole = e.whole; right = omega (arith, e.right); bottom = omega (arith, e.bottom); before = inl (omega (arith, e.right)) } in
-    let starts : StartsAt p a = record { left = omega (arith, h.line, wide); top = omega (arith, h.below); after = inl (omega (arith, wide)) } in
-    let ends : EndsAt q a = record { whole = omega (arith, h.below); right = omega arith; bottom = omega (arith, h.deep, r.fan.deep); before = inl (omega arith) } in
+    let from : (y : Area) → StartsIn (fan_at p) y → StartsAt p y = λ y s.
+    record { left = omega (arith, h.line, s.left); top = s.top; after = inl (omega (arith, s.left)) } in
+    let upto : (y : Area) → EndsIn g y → EndsAt q y = λ y e. record {
+      whole = e.whole;
+      right =
+          omega (arith, e.right);
+      bottom = omega (arith, e.bottom);
+      before = inl (omega (arith, e.right));
+    } in
+    let starts : StartsAt p a = record {
+      left = omega (arith, h.line, wide);
+      top = omega (arith, h.below);
+      after = inl (omega (arith, wide));
+    } in
+    let ends : EndsAt q a = record {
+      whole = omega (arith, h.below);
+      right = omega arith;
+      bottom = omega (arith, h.deep, r.fan.deep);
+      before = inl (omega arith);
+    } in
     record {
       goes = moved_on p end g.bottom le;
       pen = moved_pen p end g.bottom h le;
-      starts = All-append (StartsAt p) xs (a ∷ []) (All-weaker (StartsIn (fan_at p)) (StartsAt p) from xs r.starts) (All-cons (StartsAt p) a [] starts (All-nil (StartsAt p)));
-      ends = All-append (EndsAt q) xs (a ∷ []) (All-weaker (EndsIn g) (EndsAt q) upto xs r.ends) (All-cons (EndsAt q) a [] ends (All-nil (EndsAt q)));
+      starts = All-append (StartsAt p) xs (a ∷ []) (All-weaker (StartsIn (fan_at p))
+          (StartsAt p) from xs r.starts) (All-cons (StartsAt p) a [] starts (All-nil (StartsAt p)));
+      ends = All-append (EndsAt q) xs (a ∷ []) (All-weaker (EndsIn g) (EndsAt q) upto xs r.ends)
+          (All-cons (EndsAt q) a [] ends (All-nil (EndsAt q)));
       apart = apart_both xs (a ∷ []) r.apart (All-nil (SharesNone a), tt)
-          (All-weaker (EndsIn g) (λ y. All (SharesNone y) (a ∷ [])) (λ y e. All-cons (SharesNone y) a [] (left_of y a (omega (arith, e.right))) (All-nil (SharesNone y))) xs r.ends);
+          (All-weaker (EndsIn g) (λ y. All (SharesNone y) (a ∷ [])) (λ y e. All-cons (SharesNone y) a []
+          (left_of y a (omega (arith, e.right))) (All-nil (SharesNone y))) xs r.ends);
     }
 
 -- ---- the form
@@ -257,7 +348,8 @@ rows_none f h = record {
 
 module _ (plan : Plan) where
   mutual
-    items_fit : (active : Bool) (p : Pen) (items : Items) → IsPen p → Fits p (pen_after plan p items) (areas_in (drawn plan active p items))
+    items_fit : (active : Bool) (p : Pen) (items : Items) → IsPen p
+        → Fits p (pen_after plan p items) (areas_in (drawn plan active p items))
     items_fit active p Nothing h = fits_none p h
     items_fit active p (RegThen r rest) h =
         let here : Pen = ready p in
@@ -268,7 +360,8 @@ module _ (plan : Plan) where
         let mine : Fits p q box = fits_then p here q [] box first (box_fits here width first.pen) in
         let others : List Area = areas_in (drawn plan active q rest) in
         subst (Fits p (pen_after plan q rest))
-        (sym (picked_both area_of areas_of_things (register_drawn active p r width) (drawn plan active q rest) box others (picked_register area_of areas_of_things active p r width) refl))
+        (sym (picked_both area_of areas_of_things (register_drawn active p r width) (drawn plan active q rest)
+        box others (picked_register area_of areas_of_things active p r width) refl))
         (fits_then p q (pen_after plan q rest) box others mine (items_fit active q rest mine.pen))
     items_fit active p (MuxThen m rows rest) h =
         let here : Pen = ready p in
@@ -279,13 +372,16 @@ module _ (plan : Plan) where
         let q : Pen = pen_past plan p m rows in
         let inside : List Area = areas_in (rows_drawn plan active part.row here 0 f rows) in
         let all : List Area = inside ++ area_of (funnel_shape active part m here g) in
-        let mine : Fits p q all = fits_then p here q [] all first (mux_fits here g part.values part.name inside first.pen (rows_fit active part.row here 0 f rows (first_fan here first.pen))) in
+        let mine : Fits p q all = fits_then p here q [] all first (mux_fits here g part.values part.name
+        inside first.pen (rows_fit active part.row here 0 f rows (first_fan here first.pen))) in
         let others : List Area = areas_in (drawn plan active q rest) in
         subst (Fits p (pen_after plan q rest))
-        (sym (picked_both area_of areas_of_things (mux_drawn plan active p m rows) (drawn plan active q rest) all others (picked_mux area_of areas_of_things plan active p m rows) refl))
+        (sym (picked_both area_of areas_of_things (mux_drawn plan active p m rows) (drawn plan active q rest)
+        all others (picked_mux area_of areas_of_things plan active p m rows) refl))
         (fits_then p q (pen_after plan q rest) all others mine (items_fit active q rest mine.pen))
 
-    rows_fit : (active : Bool) (row : Option ℕ) (from : Pen) (q : ℕ) (f : Fan) (rows : Rows) → IsFan f → RowsFit f (fan_after plan f rows) (areas_in (rows_drawn plan active row from q f rows))
+    rows_fit : (active : Bool) (row : Option ℕ) (from : Pen) (q : ℕ) (f : Fan) (rows : Rows) → IsFan f
+        → RowsFit f (fan_after plan f rows) (areas_in (rows_drawn plan active row from q f rows))
     rows_fit active row from q f NoRow h = rows_none f h
     rows_fit active row from q f (RowThen items rest) h =
         let on : Bool = active && is_row row q in
@@ -296,15 +392,27 @@ module _ (plan : Plan) where
         let others : List Area = areas_in (rows_drawn plan active row from (suc q) next rest) in
         let fit : Fits start p mine = items_fit on start items (start_pen f h) in
         subst (RowsFit f (fan_after plan next rest))
-        (sym (picked_both area_of areas_of_things (row_wire on from f ∷ drawn plan on start items) (rows_drawn plan active row from (suc q) next rest) mine others (picked_row area_of areas_of_things on from f (drawn plan on start items)) refl))
-        (row_fits f (fan_after plan next rest) p mine others h fit (rows_fit active row from (suc q) next rest (next_fan f p mine h fit)))
+        (sym (picked_both area_of areas_of_things (row_wire on from f ∷ drawn plan on start items)
+        (rows_drawn plan active row from (suc q) next rest) mine others
+        (picked_row area_of areas_of_things on from f (drawn plan on start items)) refl))
+        (row_fits f (fan_after plan next rest) p mine others h fit
+        (rows_fit active row from (suc q) next rest (next_fan f p mine h fit)))
 
-  pub form_apart : (on : Bool) (form : Items) → AreApart (areas_in (drawing_by on plan form).shapes) × All (IsWithin (drawing_by on plan form).width (drawing_by on plan form).height) (areas_in (drawing_by on plan form).shapes)
+  pub form_apart : (on : Bool) (form : Items) → AreApart (areas_in (drawing_by on plan form).shapes)
+      × All (IsWithin (drawing_by on plan form).width (drawing_by on plan form).height)
+      (areas_in (drawing_by on plan form).shapes)
   form_apart on form =
       let p : Pen = pen_after plan first_pen form in
       let mine : List Area = areas_in (drawn plan on first_pen form) in
-      let start : IsPen first_pen = record { below = omega arith; line = omega arith; within = omega arith; deep = omega arith } in
+      let start : IsPen first_pen =
+      record { below = omega arith; line = omega arith; within = omega arith; deep = omega arith } in
       let fit : Fits first_pen p mine = items_fit on first_pen form start in
-      let all : areas_in (shapes_of on plan form) ≡ mine = picked_both area_of areas_of_things (drawn plan on first_pen form) (Wire p.x p.y p.x (p.x + 18) p.y on ∷ []) mine [] refl refl ∙ append-nil mine in
-      let inside : (a : Area) → EndsAt p a → IsWithin (p.right + 66) (p.bottom + 20) a = λ a e. record { whole = e.whole; right = omega (arith, e.right); bottom = omega (arith, e.bottom) } in
-      (subst AreApart (sym all) fit.apart, subst (All (IsWithin (p.right + 66) (p.bottom + 20))) (sym all) (All-weaker (EndsAt p) (IsWithin (p.right + 66) (p.bottom + 20)) inside mine fit.ends))
+      let all : areas_in (shapes_of on plan form)
+      ≡ mine = picked_both area_of areas_of_things (drawn plan on first_pen form)
+      (Wire p.x p.y p.x (p.x + 18) p.y on ∷ []) mine [] refl refl ∙ append-nil mine in
+      let inside : (a : Area) → EndsAt p a → IsWithin (p.right + 66) (p.bottom + 20) a = λ a e.
+      record { whole = e.whole; right = omega (arith, e.right); bottom = omega (arith, e.bottom) } in (
+        subst AreApart (sym all) fit.apart,
+        subst (All (IsWithin (p.right + 66) (p.bottom + 20))) (sym all)
+            (All-weaker (EndsAt p) (IsWithin (p.right + 66) (p.bottom + 20)) inside mine fit.ends),
+      )

@@ -49,4 +49,6 @@ pub record IsWithin (width height : ℕ) (a : Area) : Type 0 where
 abbrev pub DrawingsAreApart : Type 0
 DrawingsAreApart =
     (net : Net) (form : Items) (holds : Holds)
-    → AreApart (areas_in (drawing_of net holds form).shapes) × All (IsWithin (drawing_of net holds form).width (drawing_of net holds form).height) (areas_in (drawing_of net holds form).shapes)
+    → AreApart (areas_in (drawing_of net holds form).shapes)
+    × All (IsWithin (drawing_of net holds form).width (drawing_of net holds form).height)
+    (areas_in (drawing_of net holds form).shapes)

@@ -1,6 +1,7 @@
--- The outputs of instruments that a register captures, each on a line of its own, from its left bit on (IEEE 1687-2014, ICL:
--- CaptureSource).
-use Rattle.std.specs.Prelude.{ℕ, zero, suc, ◌==◌, ◌&&◌, Bool, false, cond, List, [], ◌++◌, codes, get_or, length, map}
+-- The outputs of instruments that a register captures, each on a line of its own, from its left bit on (IEEE
+-- 1687-2014, ICL: CaptureSource).
+use Rattle.std.specs.Prelude.{ℕ, zero, suc, ◌==◌, ◌&&◌, Bool, false, cond, List, [], ◌++◌, codes, get_or}
+use Rattle.std.specs.Prelude.{length, map}
 use Rattle.net_graph.specs.declared.net.Net.{Net}
 use Rattle.net_graph.specs.declared.net.Sig.{Sig}
 use Rattle.net_graph.specs.declared.net.Sig.TheVariants.{Absent, Zero, One, Bit, Out}

@@ -32,11 +32,23 @@ shapes_of on plan form =
 abbrev pub drawing_by : Bool → Plan → Items → Drawing
 drawing_by on plan form =
     let p = pen_after plan first_pen form in
-    record { shapes = shapes_of on plan form; width = p.right + 66; height = p.bottom + 20; x = p.x + 18; y = p.y }
+    record {
+      shapes = shapes_of on plan form;
+      width = p.right + 66;
+      height = p.bottom + 20;
+      x = p.x + 18;
+      y = p.y;
+    }
 
 abbrev pub drawing_of : Net → Holds → Items → Drawing
 drawing_of net holds form = drawing_by (has_path net holds) (plan_of net holds) form
 
 abbrev pub seen_drawing : Drawn → Drawing
 seen_drawing d =
-    record { shapes = d.shapes.items; width = d.view.width; height = d.view.height; x = d.view.x; y = d.view.y }
+    record {
+      shapes = d.shapes.items;
+      width = d.view.width;
+      height = d.view.height;
+      x = d.view.x;
+      y = d.view.y;
+    }

@@ -1,6 +1,7 @@
--- The edges of a network's graph: one from each scan source to what it feeds, and one from each select bit's register to its
--- multiplexer (IEEE 1687-2014, ICL: ScanInSource, ScanOutPort, ScanMux, SelectedBy).
-use Rattle.std.specs.Prelude.{◌≡◌, ℕ, ◌==◌, nat_lt, Bool, true, false, cond, List, [], ◌∷◌, ◌++◌, filter, length, map}
+-- The edges of a network's graph: one from each scan source to what it feeds, and one from each select bit's
+-- register to its multiplexer (IEEE 1687-2014, ICL: ScanInSource, ScanOutPort, ScanMux, SelectedBy).
+use Rattle.std.specs.Prelude.{◌≡◌, ℕ, ◌==◌, nat_lt, Bool, true, false, cond, List, [], ◌∷◌, ◌++◌, filter}
+use Rattle.std.specs.Prelude.{length, map}
 use Rattle.std.specs.List.{flat_map, range_with_len}
 use Rattle.net_graph.specs.declared.net.BitId.{BitId}
 use Rattle.net_graph.specs.declared.net.Net.{Net}
@@ -47,7 +48,8 @@ edge_of_select m b = record { from = Register b.reg; to = Multiplexer m; link = 
 -- of each row, and of each select bit
 abbrev pub edges_to_mux : Net → ℕ → List Edge
 edges_to_mux net m =
-    map (edge_of_row net m) (range_with_len 0 (length (rows_of net m))) ++ map (edge_of_select m) (selects_of net m)
+    map (edge_of_row net m) (range_with_len 0 (length (rows_of net m)))
+    ++ map (edge_of_select m) (selects_of net m)
 
 abbrev pub edge_to_scan_out : Net → Edge
 edge_to_scan_out net = record { from = node_of net.out; to = Tdo; link = Source }
@@ -55,7 +57,8 @@ edge_to_scan_out net = record { from = node_of net.out; to = Tdo; link = Source 
 -- those to registers, to multiplexers, and to scan-out
 abbrev pub edges : Net → List Edge
 edges net =
-    map (edge_to_register net) (range_with_len 0 (length net.regs.items)) ++ (flat_map (edges_to_mux net) (range_with_len 0 (length net.muxes.items)) ++ edge_to_scan_out net ∷ [])
+    map (edge_to_register net) (range_with_len 0 (length net.regs.items)) ++
+    (flat_map (edges_to_mux net) (range_with_len 0 (length net.muxes.items)) ++ edge_to_scan_out net ∷ [])
 
 -- ---- each source once, and no others
 
@@ -80,7 +83,8 @@ same_node (Multiplexer a) (Multiplexer b) = a == b
 abbrev pub edges_into : Node → List Edge → List Edge
 edges_into to es = filter (λ e. same_node to e.to) es
 
--- what feeds a node: a register and scan-out have one source, a multiplexer one for each row, in their order, and its select bits
+-- what feeds a node: a register and scan-out have one source, a multiplexer one for each row, in their order,
+-- and its select bits
 abbrev pub sources : Net → Node → List Edge
 sources net Tdi = []
 sources net Tdo = edge_to_scan_out net ∷ []

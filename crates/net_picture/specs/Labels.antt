@@ -1,5 +1,6 @@
 -- What is written at registers, multiplexers and rows, and how much room it takes.
-use Rattle.std.specs.Prelude.{ℕ, ◌+◌, ◌-◌, ◌*◌, ◌==◌, List, [], ◌∷◌, ◌++◌, codes, cond, decimal, drop, get_or, length, map, max, min, nat_le, take}
+use Rattle.std.specs.Prelude.{ℕ, ◌+◌, ◌-◌, ◌*◌, ◌==◌, List, [], ◌∷◌, ◌++◌, codes, cond, decimal, drop, get_or}
+use Rattle.std.specs.Prelude.{length, map, max, min, nat_le, take}
 use Rattle.net_graph.specs.declared.net.Net.{Net}
 use Rattle.net_graph.specs.declared.net.Row.{Row}
 use Rattle.net_graph.specs.Named.{width_of}
@@ -24,7 +25,8 @@ range_of left right = codes "[" ++ (decimal left ++ (codes ":" ++ (decimal right
 -- the left and the right index of a register of several bits
 abbrev pub range_text : Net → ℕ → List ℕ
 range_text net r =
-    range_of (index_of net (record { reg = r; pos = width_of net r - 1 })) (index_of net (record { reg = r; pos = 0 }))
+    range_of (index_of net (record { reg = r; pos = width_of net r - 1 }))
+    (index_of net (record { reg = r; pos = 0 }))
 
 abbrev pub range_if : Net → ℕ → List ℕ
 range_if net r = cond (width_of net r == 1) [] (range_text net r)

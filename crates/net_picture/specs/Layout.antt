@@ -1,6 +1,8 @@
--- The shapes of a nested form: boxes, funnels and wires, from scan-in to scan-out. A list of items is a line, which is broken
--- where it is long; the rows of a multiplexer stand one below the other between the place where they part and the funnel.
-use Rattle.std.specs.Prelude.{ℕ, suc, ◌+◌, ◌-◌, ◌==◌, ◌&&◌, Bool, false, List, [], ◌∷◌, ◌++◌, cond, Option, Some, None}
+-- The shapes of a nested form: boxes, funnels and wires, from scan-in to scan-out. A list of items is a line,
+-- which is broken where it is long; the rows of a multiplexer stand one below the other between the place
+-- where they part and the funnel.
+use Rattle.std.specs.Prelude.{ℕ, suc, ◌+◌, ◌-◌, ◌==◌, ◌&&◌, Bool, false, List, [], ◌∷◌, ◌++◌, cond, Option}
+use Rattle.std.specs.Prelude.{Some, None}
 use Rattle.net_tree.specs.Form.{Items, Nothing, RegThen, MuxThen, Rows, NoRow, RowThen}
 use Rattle.net_picture.specs.declared.plan.MuxPlan.{MuxPlan}
 use Rattle.net_picture.specs.declared.pen.Pen.{Pen}
@@ -8,7 +10,8 @@ use Rattle.net_picture.specs.declared.pen.Fan.{Fan}
 use Rattle.net_picture.specs.declared.shape.Shape.{Shape}
 use Rattle.net_picture.specs.declared.shape.Shape.TheVariants.{Register, Mux, Values, Wire}
 use Rattle.net_picture.specs.declared.shape.RowEnd.{RowEnd}
-use Rattle.net_picture.specs.Pens.{start_at, is_full, ready, after_register, fan_at, after_row, funnel_at, after_mux}
+use Rattle.net_picture.specs.Pens.{start_at, is_full, ready, after_register, fan_at, after_row, funnel_at}
+use Rattle.net_picture.specs.Pens.{after_mux}
 use Rattle.net_picture.specs.Plan.{Plan, box_of, mux_of}
 
 -- where items and rows end
@@ -17,11 +20,13 @@ abbrev mutual
   pen_after plan p Nothing = p
   pen_after plan p (RegThen r rest) = pen_after plan (after_register (ready p) (box_of plan r)) rest
   pen_after plan p (MuxThen m rows rest) =
-      pen_after plan (after_mux (ready p) (fan_after plan (fan_at (ready p)) rows) (mux_of plan m).values (mux_of plan m).name) rest
+      pen_after plan (after_mux (ready p) (fan_after plan (fan_at (ready p)) rows)
+      (mux_of plan m).values (mux_of plan m).name) rest
 
   pub fan_after : Plan → Fan → Rows → Fan
   fan_after plan f NoRow = f
-  fan_after plan f (RowThen items rest) = fan_after plan (after_row f (pen_after plan (start_at f.x f.y) items)) rest
+  fan_after plan f (RowThen items rest) =
+      fan_after plan (after_row f (pen_after plan (start_at f.x f.y) items)) rest
 
 -- where the wire of each row ends
 abbrev pub row_ends : Plan → Fan → Rows → List RowEnd
@@ -35,10 +40,12 @@ abbrev pub is_row : Option ℕ → ℕ → Bool
 is_row None q = false
 is_row (Some k) q = k == q
 
--- the wire from the end of a line that is full to the beginning of the next one, and the wire to the next item
+-- the wire from the end of a line that is full to the beginning of the next one, and the wire to the next
+-- item
 abbrev pub turn_back : Bool → Pen → List Shape
 turn_back active p =
-    cond (is_full p) (Wire p.x p.y (p.x + 9) p.left (p.bottom + 4) active ∷ Wire p.left (p.bottom + 4) p.left p.left (p.bottom + 30) active ∷ []) []
+    cond (is_full p) (Wire p.x p.y (p.x + 9) p.left (p.bottom + 4) active
+    ∷ Wire p.left (p.bottom + 4) p.left p.left (p.bottom + 30) active ∷ []) []
 
 abbrev pub wire_to : Bool → Pen → List Shape
 wire_to active p =
@@ -66,26 +73,34 @@ row_closes active row m q x y (e ∷ es) =
 abbrev pub mux_close : Bool → MuxPlan → ℕ → Pen → Fan → List RowEnd → List Shape
 mux_close active part m p f ends =
     let x = funnel_at f part.values in
-    (Mux m x p.y (f.last - p.y) active ∷ row_closes active part.row m 0 x p.y ends) ++ Wire (x + 14) p.y (x + 14) (x + 14 + part.name) p.y active ∷ []
+    (Mux m x p.y (f.last - p.y) active ∷ row_closes active part.row m 0 x p.y ends)
+    ++ Wire (x + 14) p.y (x + 14) (x + 14 + part.name) p.y active ∷ []
 
 -- the shapes of items whose list is on the active path or isn't
 abbrev mutual
   pub drawn : Plan → Bool → Pen → Items → List Shape
   drawn plan active p Nothing = []
   drawn plan active p (RegThen r rest) =
-      (wire_to active p ++ Register r ((ready p).x + 18) (ready p).y (box_of plan r) active ∷ []) ++ drawn plan active (after_register (ready p) (box_of plan r)) rest
+      (wire_to active p ++ Register r ((ready p).x + 18) (ready p).y (box_of plan r) active ∷ [])
+      ++ drawn plan active (after_register (ready p) (box_of plan r)) rest
   drawn plan active p (MuxThen m rows rest) =
-      (wire_to active p ++ (rows_drawn plan active (mux_of plan m).row (ready p) 0 (fan_at (ready p)) rows ++ mux_close active (mux_of plan m) m (ready p) (fan_after plan (fan_at (ready p)) rows) (row_ends plan (fan_at (ready p)) rows))) ++ drawn plan active (after_mux (ready p) (fan_after plan (fan_at (ready p)) rows) (mux_of plan m).values (mux_of plan m).name) rest
+      (wire_to active p ++ (rows_drawn plan active (mux_of plan m).row (ready p) 0 (fan_at (ready p)) rows
+      ++ mux_close active (mux_of plan m) m (ready p) (fan_after plan (fan_at (ready p)) rows)
+      (row_ends plan (fan_at (ready p)) rows))) ++ drawn plan active (after_mux (ready p)
+      (fan_after plan (fan_at (ready p)) rows) (mux_of plan m).values (mux_of plan m).name) rest
 
   pub rows_drawn : Plan → Bool → Option ℕ → Pen → ℕ → Fan → Rows → List Shape
   rows_drawn plan active row p q f NoRow = []
   rows_drawn plan active row p q f (RowThen items rest) =
-      (row_wire (active && is_row row q) p f ∷ drawn plan (active && is_row row q) (start_at f.x f.y) items) ++ rows_drawn plan active row p (suc q) (after_row f (pen_after plan (start_at f.x f.y) items)) rest
+      (row_wire (active && is_row row q) p f ∷ drawn plan (active && is_row row q) (start_at f.x f.y) items)
+      ++ rows_drawn plan active row p (suc q) (after_row f (pen_after plan (start_at f.x f.y) items)) rest
 
 -- a multiplexer with its rows, and where the list goes on after it
 abbrev pub mux_drawn : Plan → Bool → Pen → ℕ → Rows → List Shape
 mux_drawn plan active p m rows =
-    wire_to active p ++ (rows_drawn plan active (mux_of plan m).row (ready p) 0 (fan_at (ready p)) rows ++ mux_close active (mux_of plan m) m (ready p) (fan_after plan (fan_at (ready p)) rows) (row_ends plan (fan_at (ready p)) rows))
+    wire_to active p ++ (rows_drawn plan active (mux_of plan m).row (ready p) 0 (fan_at (ready p)) rows
+    ++ mux_close active (mux_of plan m) m (ready p) (fan_after plan (fan_at (ready p)) rows)
+    (row_ends plan (fan_at (ready p)) rows))
 
 abbrev pub pen_past : Plan → Pen → ℕ → Rows → Pen
 pen_past plan p m rows =

@@ -20,10 +20,12 @@ active_box_of (Wire x y turn to_x to_y active) = []
 abbrev pub active_boxes_in : List Shape → List ℕ
 active_boxes_in shapes = flat_map active_box_of shapes
 
--- where there is an active path, the boxes in colour, in the order of the drawing, are its registers from scan-in to scan-out
+-- where there is an active path, the boxes in colour, in the order of the drawing, are its registers from
+-- scan-in to scan-out
 abbrev pub DrawingsAreMarked : Type 0
 DrawingsAreMarked =
-    (net : Net) (form : Items) (holds : Holds) (registers : List ℕ) → Describes net form → path net holds ≡ Some registers
+    (net : Net) (form : Items) (holds : Holds) (registers : List ℕ)
+    → Describes net form → path net holds ≡ Some registers
     → active_boxes_in (drawing_of net holds form).shapes ≡ registers
 
 -- whether the funnel of a multiplexer is in colour, once for each funnel that it has

@@ -1,5 +1,6 @@
 -- What is met on the active scan path of a state (IEEE 1687-2014: active scan path).
-use Rattle.std.specs.Prelude.{◌≡◌, ℕ, zero, suc, ◌+◌, ◌&&◌, Bool, false, List, [], ◌∷◌, cond, length, Option, Some, None}
+use Rattle.std.specs.Prelude.{◌≡◌, ℕ, zero, suc, ◌+◌, ◌&&◌, Bool, false, List, [], ◌∷◌, cond, length, Option}
+use Rattle.std.specs.Prelude.{Some, None}
 use Rattle.std.specs.List.{flat_map, list_any}
 use Rattle.net_graph.specs.declared.net.Net.{Net}
 use Rattle.net_graph.specs.declared.net.Point.{Point}
@@ -10,7 +11,8 @@ use Rattle.net_tree.specs.Places.{same_point}
 use Rattle.net_picture.specs.Layout.{is_row}
 use Rattle.net_picture.specs.Plan.{has_path}
 
--- what stands before a point on the active path; nothing before scan-in, or before a multiplexer that is in none of its rows
+-- what stands before a point on the active path; nothing before scan-in, or before a multiplexer that is in
+-- none of its rows
 abbrev pub before : Net → Holds → Point → Option Point
 before net holds Entry = None
 before net holds (Reg r) = Some (reg_source net r)

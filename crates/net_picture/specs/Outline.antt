@@ -1,5 +1,6 @@
 -- A drawing is the same in each state, but for its colours and the wires within funnels.
-use Rattle.std.specs.Prelude.{◌≡◌, ◌+◌, ◌==◌, ◌&&◌, Bool, false, List, [], ◌∷◌, ◌++◌, cond, Option, Some, None}
+use Rattle.std.specs.Prelude.{◌≡◌, ◌+◌, ◌==◌, ◌&&◌, Bool, false, List, [], ◌∷◌, ◌++◌, cond, Option, Some}
+use Rattle.std.specs.Prelude.{None}
 use Rattle.net_graph.specs.declared.net.Net.{Net}
 use Rattle.net_graph.specs.Signals.{Holds}
 use Rattle.net_tree.specs.Form.{Items}
@@ -14,9 +15,11 @@ bare (Mux m x y height active) = Mux m x y height false
 bare (Values m q x y) = Values m q x y
 bare (Wire x y turn to_x to_y active) = Wire x y turn to_x to_y false
 
--- the wire within a funnel stands after the select values of its row, turns in the middle of the funnel, and ends at its right side
+-- the wire within a funnel stands after the select values of its row, turns in the middle of the funnel, and
+-- ends at its right side
 abbrev pub is_within : Option Shape → Shape → Bool
-is_within (Some (Values m q x y)) (Wire from_x from_y turn to_x to_y active) = (turn == x + 7) && (to_x == x + 14)
+is_within (Some (Values m q x y)) (Wire from_x from_y turn to_x to_y active) =
+    (turn == x + 7) && (to_x == x + 14)
 is_within before shape = false
 
 -- what is left of shapes that stand after another one
@@ -30,4 +33,5 @@ outline shapes = outline_after None shapes
 -- so each row that some state selects is drawn in all states as the line in colour goes then
 abbrev pub OutlinesAreOne : Type 0
 OutlinesAreOne =
-    (net : Net) (form : Items) (one other : Holds) → outline (drawing_of net one form).shapes ≡ outline (drawing_of net other form).shapes
+    (net : Net) (form : Items) (one other : Holds)
+    → outline (drawing_of net one form).shapes ≡ outline (drawing_of net other form).shapes

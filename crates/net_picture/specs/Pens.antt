@@ -1,5 +1,5 @@
--- Where things stand, in units of the view: x to the right, y downwards. A register's box is 26 high, a wire between two
--- things 18 long.
+-- Where things stand, in units of the view: x to the right, y downwards. A register's box is 26 high, a wire
+-- between two things 18 long.
 use Rattle.std.specs.Prelude.{ℕ, ◌+◌, Bool, cond, max, nat_le}
 use Rattle.net_picture.specs.declared.pen.Pen.{Pen}
 use Rattle.net_picture.specs.declared.pen.Fan.{Fan}
@@ -14,7 +14,13 @@ is_full p = nat_le (p.left + 1000) p.x
 
 -- the next line begins below all of this one
 abbrev pub next_line : Pen → Pen
-next_line p = record { left = p.left; x = p.left; y = p.bottom + 30; right = max p.right (p.x + 9); bottom = p.bottom + 46 }
+next_line p = record {
+  left = p.left;
+  x = p.left;
+  y = p.bottom + 30;
+  right = max p.right (p.x + 9);
+  bottom = p.bottom + 46;
+}
 
 -- where the next item's wire begins
 abbrev pub ready : Pen → Pen
@@ -35,7 +41,8 @@ fan_at p = record { x = p.x + 34; y = p.y; right = p.x + 34; last = p.y; bottom 
 
 -- the next row begins below all of this one
 abbrev pub after_row : Fan → Pen → Fan
-after_row f p = record { x = f.x; y = p.bottom + 24; right = max f.right p.right; last = p.y; bottom = p.bottom }
+after_row f p =
+    record { x = f.x; y = p.bottom + 24; right = max f.right p.right; last = p.y; bottom = p.bottom }
 
 -- the funnel stands to the right of all rows and their select values; it is 14 wide
 abbrev pub funnel_at : Fan → ℕ → ℕ

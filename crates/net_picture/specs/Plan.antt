@@ -13,7 +13,8 @@ use Rattle.net_picture.specs.Labels.{box_width, name_room, values_room}
 abbrev pub has_path : Net → Holds → Bool
 has_path net holds = is_some (active net holds)
 
--- the width of each register's box, and of each multiplexer the room beside its funnel and the row that it is in
+-- the width of each register's box, and of each multiplexer the room beside its funnel and the row that it is
+-- in
 pub record Plan : Type 0 where
   pub boxes : List ℕ
   pub muxes : List MuxPlan

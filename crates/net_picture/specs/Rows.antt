@@ -1,5 +1,6 @@
 -- The wire of a row into its multiplexer is in colour exactly where the row is on the active scan path.
-use Rattle.std.specs.Prelude.{◌≡◌, ◌<◌, ℕ, ◌==◌, ◌&&◌, Bool, List, [], ◌∷◌, ◌++◌, cond, length, Option, Some, None}
+use Rattle.std.specs.Prelude.{◌≡◌, ◌<◌, ℕ, ◌==◌, ◌&&◌, Bool, List, [], ◌∷◌, ◌++◌, cond, length, Option, Some}
+use Rattle.std.specs.Prelude.{None}
 use Rattle.net_graph.specs.declared.net.Net.{Net}
 use Rattle.net_graph.specs.Path.{rows_of}
 use Rattle.net_graph.specs.Signals.{Holds}
@@ -23,9 +24,10 @@ abbrev pub row_colours : ℕ → ℕ → List Shape → List Bool
 row_colours m q [] = []
 row_colours m q (s ∷ ss) = wire_into m q s (next_of ss) ++ row_colours m q ss
 
--- each row of each multiplexer has one wire to its select values at the funnel, and this is in colour exactly where the multiplexer is
--- on the active path and the row is the one that is selected
+-- each row of each multiplexer has one wire to its select values at the funnel, and this is in colour exactly
+-- where the multiplexer is on the active path and the row is the one that is selected
 abbrev pub RowsAreMarked : Type 0
 RowsAreMarked =
-    (net : Net) (form : Items) (holds : Holds) (m q : ℕ) → Describes net form → m < length net.muxes.items → q < length (rows_of net m)
+    (net : Net) (form : Items) (holds : Holds) (m q : ℕ) → Describes net form
+    → m < length net.muxes.items → q < length (rows_of net m)
     → row_colours m q (drawing_of net holds form).shapes ≡ is_row_met net holds m q ∷ []

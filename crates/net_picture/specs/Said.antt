@@ -9,7 +9,8 @@ use Rattle.net_graph.specs.Path.{is_in, route_of, rows_of}
 use Rattle.net_graph.specs.PathNames.{mux_path}
 use Rattle.net_graph.specs.Signals.{Holds}
 use Rattle.net_tree.specs.Lawful.{selects_of}
-use Rattle.net_picture.specs.Edges.{Node, Tdi, Tdo, Register, Multiplexer, Edge, edge_to_register, edge_of_row, edge_of_select, edge_to_scan_out, edges}
+use Rattle.net_picture.specs.Edges.{Node, Tdi, Tdo, Register, Multiplexer, Edge, edge_to_register}
+use Rattle.net_picture.specs.Edges.{edge_of_row, edge_of_select, edge_to_scan_out, edges}
 use Rattle.net_picture.specs.Labels.{register_label}
 use Rattle.net_picture.specs.Met.{is_marked, is_mux_met, is_row_met}
 use Rattle.net_picture.specs.Plan.{has_path}
@@ -21,7 +22,8 @@ pub data Colour : Type 0 where
   Red : Colour
   Other : Colour
 
--- a line begins or ends the graph, says that there is a node with this label, or an edge, is a comment, or can't be read
+-- a line begins or ends the graph, says that there is a node with this label, or an edge, is a comment, or
+-- can't be read
 pub data Said : Type 0 where
   Begins : Said
   Ends : Said
@@ -40,7 +42,8 @@ node_colour marked active = cond marked Red (edge_colour active)
 -- a register and its edge are in colour exactly where it is on the active path
 abbrev pub said_register : Net → Holds → Option Point → ℕ → Said
 said_register net holds marked r =
-    HasNode (Register r) (register_label net r) (node_colour (is_marked marked (Reg r)) (is_in (route_of net holds) r))
+    HasNode (Register r) (register_label net r)
+    (node_colour (is_marked marked (Reg r)) (is_in (route_of net holds) r))
 
 abbrev pub said_to_register : Net → Holds → ℕ → Said
 said_to_register net holds r = HasEdge (edge_to_register net r) (edge_colour (is_in (route_of net holds) r))
@@ -58,7 +61,8 @@ said_select m b = HasEdge (edge_of_select m b) Plain
 
 abbrev pub said_to_mux : Net → Holds → ℕ → List Said
 said_to_mux net holds m =
-    map (said_row net holds m) (range_with_len 0 (length (rows_of net m))) ++ map (said_select m) (selects_of net m)
+    map (said_row net holds m) (range_with_len 0 (length (rows_of net m)))
+    ++ map (said_select m) (selects_of net m)
 
 -- that to scan-out where there is an active path
 abbrev pub said_to_scan_out : Net → Holds → Said
@@ -67,11 +71,15 @@ said_to_scan_out net holds = HasEdge (edge_to_scan_out net) (edge_colour (has_pa
 -- each register and each multiplexer is a node, once
 abbrev pub said_nodes : Net → Holds → Option Point → List Said
 said_nodes net holds marked =
-    HasNode Tdi (codes "TDI") Plain ∷ HasNode Tdo (codes "TDO") Plain ∷ (map (said_register net holds marked) (range_with_len 0 (length net.regs.items)) ++ map (said_mux net holds marked) (range_with_len 0 (length net.muxes.items)))
+    HasNode Tdi (codes "TDI") Plain ∷ HasNode Tdo (codes "TDO") Plain
+    ∷ (map (said_register net holds marked) (range_with_len 0 (length net.regs.items))
+    ++ map (said_mux net holds marked) (range_with_len 0 (length net.muxes.items)))
 
 abbrev pub said_edges : Net → Holds → List Said
 said_edges net holds =
-    map (said_to_register net holds) (range_with_len 0 (length net.regs.items)) ++ (flat_map (said_to_mux net holds) (range_with_len 0 (length net.muxes.items)) ++ said_to_scan_out net holds ∷ [])
+    map (said_to_register net holds) (range_with_len 0 (length net.regs.items))
+    ++ (flat_map (said_to_mux net holds) (range_with_len 0 (length net.muxes.items))
+    ++ said_to_scan_out net holds ∷ [])
 
 abbrev pub said : Net → Holds → Option Point → List Said
 said net holds marked = Begins ∷ (said_nodes net holds marked ++ (said_edges net holds ++ Ends ∷ []))
@@ -86,4 +94,5 @@ edge_in (Comment text) = []
 edge_in (Unread line) = []
 
 abbrev pub EdgesAreSaid : Type 0
-EdgesAreSaid = (net : Net) (holds : Holds) (marked : Option Point) → flat_map edge_in (said net holds marked) ≡ edges net
+EdgesAreSaid = (net : Net) (holds : Holds) (marked : Option Point)
+    → flat_map edge_in (said net holds marked) ≡ edges net

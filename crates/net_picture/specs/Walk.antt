@@ -11,14 +11,17 @@ use Rattle.net_picture.specs.Layout.{drawn, pen_after, fan_after, row_ends, rows
 use Rattle.net_picture.specs.Plan.{Plan}
 
 -- the entries are those of items that end with this pen, and whose shapes follow those that are drawn
-pub record ItemsAreLeft (plan : Plan) (active : Bool) (entries : List Entry) (p : Pen) (shapes : List Shape) (end : Pen) (all : List Shape) : Type 0 where
+pub record ItemsAreLeft (plan : Plan) (active : Bool) (entries : List Entry) (p : Pen) (shapes : List Shape)
+    (end : Pen) (all : List Shape) : Type 0 where
   pub items : Items
   pub entries_are : entries ≡ entries_of items
   pub end_is : pen_after plan p items ≡ end
   pub shapes_are : shapes ++ drawn plan active p items ≡ all
 
 -- the same of rows from number q on, with other entries after theirs
-pub record RowsAreLeft (plan : Plan) (active : Bool) (row : Option ℕ) (from : Pen) (q : ℕ) (count : ℕ) (entries after : List Entry) (f : Fan) (shapes : List Shape) (ends : List RowEnd) (end : Fan) (all : List Shape) (all_ends : List RowEnd) : Type 0 where
+pub record RowsAreLeft (plan : Plan) (active : Bool) (row : Option ℕ) (from : Pen) (q : ℕ) (count : ℕ)
+    (entries after : List Entry) (f : Fan) (shapes : List Shape) (ends : List RowEnd) (end : Fan)
+    (all : List Shape) (all_ends : List RowEnd) : Type 0 where
   pub rows : Rows
   pub entries_are : entries ≡ row_entries rows ++ after
   pub count_is : count ≡ row_count rows

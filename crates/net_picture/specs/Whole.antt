@@ -31,4 +31,5 @@ funnels_in shapes = flat_map funnel_of_shape shapes
 abbrev pub DrawingsAreWhole : Type 0
 DrawingsAreWhole =
     (net : Net) (form : Items) (holds : Holds) → Describes net form
-    → IsEachOnce (length net.regs.items) (boxes_in (drawing_of net holds form).shapes) × IsEachOnce (length net.muxes.items) (funnels_in (drawing_of net holds form).shapes)
+    → IsEachOnce (length net.regs.items) (boxes_in (drawing_of net holds form).shapes)
+    × IsEachOnce (length net.muxes.items) (funnels_in (drawing_of net holds form).shapes)

@@ -81,7 +81,8 @@ fn put_line_unless(
 ) -> Result<(), StoreFault>
     requires well_formed { IsNet net.now }
     requires there { IsSignalOf net.now signal }
-    ensures { OnOk result (Adds (Some text.old) (Some text.new) (captures.line_unless net.now repeated signal)) }
+    ensures { OnOk result
+        (Adds (Some text.old) (Some text.new) (captures.line_unless net.now repeated signal)) }
 {
     if repeated {
         text.write(b"")
@@ -100,7 +101,8 @@ fn put_capture(
     requires well_formed { IsNet net.now }
     requires signals { All (IsSignalOf net.now) signals.now }
     requires there { pos < length signals.now }
-    ensures { OnOk result (Adds (Some text.old) (Some text.new) (captures.capture_at net.now signals.now pos)) }
+    ensures { OnOk result
+        (Adds (Some text.old) (Some text.new) (captures.capture_at net.now signals.now pos)) }
 {
     let repeated = is_repeated(signals, pos);
     let signal = captured_at(signals, pos);
@@ -111,7 +113,8 @@ fn put_capture(
 fn put_signals(net: &Net, signals: &[Sig], text: &mut SureSink) -> Result<(), StoreFault>
     requires well_formed { IsNet net.now }
     requires signals { All (IsSignalOf net.now) signals.now }
-    ensures { OnOk result (Adds (Some text.old) (Some text.new) (captures.captures net.now signals.now (length signals.now))) }
+    ensures { OnOk result
+        (Adds (Some text.old) (Some text.new) (captures.captures net.now signals.now (length signals.now))) }
 {
     for j in 0..signals.len() {
         put_capture(net, signals, signals.len() - 1 - j, text)?;

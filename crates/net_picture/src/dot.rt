@@ -85,8 +85,10 @@ fn put_register_node<K: Sink>(
 ) -> Result<(), StoreFault>
     requires well_formed { IsNet net.now }
     requires there { reg < length net.now.regs.items }
-    ensures whole { OnOk result (Adds (K.taken k.old) (K.taken k.new) (dot.register_node net.now marks.entry.marked marks.entry.met.now reg)) }
-    ensures part { OnErr result (AddsPart (K.taken k.old) (K.taken k.new) (dot.register_node net.now marks.entry.marked marks.entry.met.now reg)) }
+    ensures whole { OnOk result (Adds (K.taken k.old) (K.taken k.new)
+        (dot.register_node net.now marks.entry.marked marks.entry.met.now reg)) }
+    ensures part { OnErr result (AddsPart (K.taken k.old) (K.taken k.new)
+        (dot.register_node net.now marks.entry.marked marks.entry.met.now reg)) }
     ensures cause { HasCause (K.faults k.old) (K.faults k.new) result StoreFault.Failed }
 {
     let point = Point::Reg(reg);
@@ -105,8 +107,10 @@ fn put_mux_node<K: Sink>(
 ) -> Result<(), StoreFault>
     requires well_formed { IsNet net.now }
     requires there { mux < length net.now.muxes.items }
-    ensures whole { OnOk result (Adds (K.taken k.old) (K.taken k.new) (dot.mux_node net.now marks.entry.marked marks.entry.met.now mux)) }
-    ensures part { OnErr result (AddsPart (K.taken k.old) (K.taken k.new) (dot.mux_node net.now marks.entry.marked marks.entry.met.now mux)) }
+    ensures whole { OnOk result (Adds (K.taken k.old) (K.taken k.new)
+        (dot.mux_node net.now marks.entry.marked marks.entry.met.now mux)) }
+    ensures part { OnErr result (AddsPart (K.taken k.old) (K.taken k.new)
+        (dot.mux_node net.now marks.entry.marked marks.entry.met.now mux)) }
     ensures cause { HasCause (K.faults k.old) (K.faults k.new) result StoreFault.Failed }
 {
     let point = Point::Mux(mux);
@@ -132,8 +136,10 @@ fn put_node<'a, K: Sink>(
     style: &'a [u8],
     k: &mut K,
 ) -> Result<(), StoreFault>
-    ensures whole { OnOk result (Adds (K.taken k.old) (K.taken k.new) (dot.node_text letters.now number label.now shape.now style.now)) }
-    ensures part { OnErr result (AddsPart (K.taken k.old) (K.taken k.new) (dot.node_text letters.now number label.now shape.now style.now)) }
+    ensures whole { OnOk result (Adds (K.taken k.old) (K.taken k.new)
+        (dot.node_text letters.now number label.now shape.now style.now)) }
+    ensures part { OnErr result (AddsPart (K.taken k.old) (K.taken k.new)
+        (dot.node_text letters.now number label.now shape.now style.now)) }
     ensures cause { HasCause (K.faults k.old) (K.faults k.new) result StoreFault.Failed }
 {
     let words = [
@@ -158,8 +164,10 @@ fn put_register_edge<K: Sink>(
 ) -> Result<(), StoreFault>
     requires well_formed { IsNet net.now }
     requires there { reg < length net.now.regs.items }
-    ensures whole { OnOk result (Adds (K.taken k.old) (K.taken k.new) (dot.register_edge net.now met.now reg)) }
-    ensures part { OnErr result (AddsPart (K.taken k.old) (K.taken k.new) (dot.register_edge net.now met.now reg)) }
+    ensures whole { OnOk result
+        (Adds (K.taken k.old) (K.taken k.new) (dot.register_edge net.now met.now reg)) }
+    ensures part { OnErr result
+        (AddsPart (K.taken k.old) (K.taken k.new) (dot.register_edge net.now met.now reg)) }
     ensures cause { HasCause (K.faults k.old) (K.faults k.new) result StoreFault.Failed }
 {
     let source = net.regs.get(reg as usize).from;
@@ -185,7 +193,8 @@ fn row_source(net: &Net, mux: u32, row: usize) -> Point
     net.muxes.get(mux as usize).rows.get(row).from
 }
 
-/// Writes an edge to a multiplexer: the letters and the number of its source, its select values and its style.
+/// Writes an edge to a multiplexer: the letters and the number of its source, its select values and its
+/// style.
 #[tactic(auto, unfolding(crate::specs::Dot::labelled_edge, ij_io::specs::Words::words_text))]
 fn put_labelled_edge<'a, K: Sink>(
     letters: &'a [u8],
@@ -195,8 +204,10 @@ fn put_labelled_edge<'a, K: Sink>(
     style: &'a [u8],
     k: &mut K,
 ) -> Result<(), StoreFault>
-    ensures whole { OnOk result (Adds (K.taken k.old) (K.taken k.new) (dot.labelled_edge letters.now (word_text number.entry) mux values.now style.now)) }
-    ensures part { OnErr result (AddsPart (K.taken k.old) (K.taken k.new) (dot.labelled_edge letters.now (word_text number.entry) mux values.now style.now)) }
+    ensures whole { OnOk result (Adds (K.taken k.old) (K.taken k.new)
+        (dot.labelled_edge letters.now (word_text number.entry) mux values.now style.now)) }
+    ensures part { OnErr result (AddsPart (K.taken k.old) (K.taken k.new)
+        (dot.labelled_edge letters.now (word_text number.entry) mux values.now style.now)) }
     ensures cause { HasCause (K.faults k.old) (K.faults k.new) result StoreFault.Failed }
 {
     let words = [
@@ -226,7 +237,8 @@ fn put_row_edge<K: Sink>(
     requires there { mux < length net.now.muxes.items }
     requires row { row < length (paths.rows_of net.now mux) }
     ensures whole { OnOk result (Adds (K.taken k.old) (K.taken k.new) (dot.row_edge net.now active mux row)) }
-    ensures part { OnErr result (AddsPart (K.taken k.old) (K.taken k.new) (dot.row_edge net.now active mux row)) }
+    ensures part { OnErr result
+        (AddsPart (K.taken k.old) (K.taken k.new) (dot.row_edge net.now active mux row)) }
     ensures cause { HasCause (K.faults k.old) (K.faults k.new) result StoreFault.Failed }
 {
     let source = row_source(net, mux, row);
@@ -260,8 +272,10 @@ fn put_row_line<K: Sink>(
 ) -> Result<(), StoreFault>
     requires there { mux < length net.now.muxes.items }
     requires row { row < length (paths.rows_of net.now mux) }
-    ensures whole { OnOk result (Adds (K.taken k.old) (K.taken k.new) (dot.row_line net.now active selected mux row)) }
-    ensures part { OnErr result (AddsPart (K.taken k.old) (K.taken k.new) (dot.row_line net.now active selected mux row)) }
+    ensures whole { OnOk result
+        (Adds (K.taken k.old) (K.taken k.new) (dot.row_line net.now active selected mux row)) }
+    ensures part { OnErr result
+        (AddsPart (K.taken k.old) (K.taken k.new) (dot.row_line net.now active selected mux row)) }
     ensures cause { HasCause (K.faults k.old) (K.faults k.new) result StoreFault.Failed }
 {
     let shown = is_shown(active, selected, row);
@@ -294,8 +308,10 @@ fn put_row_edges<K: Sink>(
     k: &mut K,
 ) -> Result<(), StoreFault>
     requires { mux < length net.now.muxes.items }
-    ensures whole { OnOk result (Adds (K.taken k.old) (K.taken k.new) (lines_from (dot.row_line net.now active selected mux) 0 (length (paths.rows_of net.now mux)))) }
-    ensures part { OnErr result (AddsPart (K.taken k.old) (K.taken k.new) (lines_from (dot.row_line net.now active selected mux) 0 (length (paths.rows_of net.now mux)))) }
+    ensures whole { OnOk result (Adds (K.taken k.old) (K.taken k.new)
+        (lines_from (dot.row_line net.now active selected mux) 0 (length (paths.rows_of net.now mux)))) }
+    ensures part { OnErr result (AddsPart (K.taken k.old) (K.taken k.new)
+        (lines_from (dot.row_line net.now active selected mux) 0 (length (paths.rows_of net.now mux)))) }
     ensures cause { HasCause (K.faults k.old) (K.faults k.new) result StoreFault.Failed }
 {
     let count = row_count(net, mux);
@@ -324,8 +340,10 @@ fn put_select_edge<K: Sink>(mux: u32, bit: BitId, k: &mut K) -> Result<(), Store
 
 /// Writes the edges from the registers of select bits.
 fn put_select_edges<K: Sink>(mux: u32, bits: &[BitId], k: &mut K) -> Result<(), StoreFault>
-    ensures whole { OnOk result (Adds (K.taken k.old) (K.taken k.new) (flat_map (dot.select_edge mux) bits.now)) }
-    ensures part { OnErr result (AddsPart (K.taken k.old) (K.taken k.new) (flat_map (dot.select_edge mux) bits.now)) }
+    ensures whole { OnOk result
+        (Adds (K.taken k.old) (K.taken k.new) (flat_map (dot.select_edge mux) bits.now)) }
+    ensures part { OnErr result
+        (AddsPart (K.taken k.old) (K.taken k.new) (flat_map (dot.select_edge mux) bits.now)) }
     ensures cause { HasCause (K.faults k.old) (K.faults k.new) result StoreFault.Failed }
 {
     for bit in bits {
@@ -346,8 +364,10 @@ fn put_mux_edges<K: Sink>(
     requires well_formed { IsNet net.now }
     requires there { mux < length net.now.muxes.items }
     requires holds { AreHolds net.now holds.now }
-    ensures whole { OnOk result (Adds (K.taken k.old) (K.taken k.new) (dot.mux_edges net.now holds.now met.now mux)) }
-    ensures part { OnErr result (AddsPart (K.taken k.old) (K.taken k.new) (dot.mux_edges net.now holds.now met.now mux)) }
+    ensures whole { OnOk result
+        (Adds (K.taken k.old) (K.taken k.new) (dot.mux_edges net.now holds.now met.now mux)) }
+    ensures part { OnErr result
+        (AddsPart (K.taken k.old) (K.taken k.new) (dot.mux_edges net.now holds.now met.now mux)) }
     ensures cause { HasCause (K.faults k.old) (K.faults k.new) result StoreFault.Failed }
 {
     let selected = row_of(net, holds, mux);
@@ -366,8 +386,10 @@ fn put_register_nodes<K: Sink>(
     k: &mut K,
 ) -> Result<(), StoreFault>
     requires well_formed { IsNet net.now }
-    ensures whole { OnOk result (Adds (K.taken k.old) (K.taken k.new) (lines_from (dot.register_node net.now marks.entry.marked marks.entry.met.now) 0 (length net.now.regs.items))) }
-    ensures part { OnErr result (AddsPart (K.taken k.old) (K.taken k.new) (lines_from (dot.register_node net.now marks.entry.marked marks.entry.met.now) 0 (length net.now.regs.items))) }
+    ensures whole { OnOk result (Adds (K.taken k.old) (K.taken k.new) (lines_from
+        (dot.register_node net.now marks.entry.marked marks.entry.met.now) 0 (length net.now.regs.items))) }
+    ensures part { OnErr result (AddsPart (K.taken k.old) (K.taken k.new) (lines_from
+        (dot.register_node net.now marks.entry.marked marks.entry.met.now) 0 (length net.now.regs.items))) }
     ensures cause { HasCause (K.faults k.old) (K.faults k.new) result StoreFault.Failed }
 {
     let count = register_count(net);
@@ -385,8 +407,10 @@ fn put_mux_nodes<K: Sink>(
     k: &mut K,
 ) -> Result<(), StoreFault>
     requires well_formed { IsNet net.now }
-    ensures whole { OnOk result (Adds (K.taken k.old) (K.taken k.new) (lines_from (dot.mux_node net.now marks.entry.marked marks.entry.met.now) 0 (length net.now.muxes.items))) }
-    ensures part { OnErr result (AddsPart (K.taken k.old) (K.taken k.new) (lines_from (dot.mux_node net.now marks.entry.marked marks.entry.met.now) 0 (length net.now.muxes.items))) }
+    ensures whole { OnOk result (Adds (K.taken k.old) (K.taken k.new) (lines_from
+        (dot.mux_node net.now marks.entry.marked marks.entry.met.now) 0 (length net.now.muxes.items))) }
+    ensures part { OnErr result (AddsPart (K.taken k.old) (K.taken k.new) (lines_from
+        (dot.mux_node net.now marks.entry.marked marks.entry.met.now) 0 (length net.now.muxes.items))) }
     ensures cause { HasCause (K.faults k.old) (K.faults k.new) result StoreFault.Failed }
 {
     let count = mux_count(net);
@@ -399,8 +423,10 @@ fn put_mux_nodes<K: Sink>(
 /// Writes the edges to all registers.
 fn put_register_edges<K: Sink>(net: &Net, met: &[Point], k: &mut K) -> Result<(), StoreFault>
     requires well_formed { IsNet net.now }
-    ensures whole { OnOk result (Adds (K.taken k.old) (K.taken k.new) (lines_from (dot.register_edge net.now met.now) 0 (length net.now.regs.items))) }
-    ensures part { OnErr result (AddsPart (K.taken k.old) (K.taken k.new) (lines_from (dot.register_edge net.now met.now) 0 (length net.now.regs.items))) }
+    ensures whole { OnOk result (Adds (K.taken k.old) (K.taken k.new)
+        (lines_from (dot.register_edge net.now met.now) 0 (length net.now.regs.items))) }
+    ensures part { OnErr result (AddsPart (K.taken k.old) (K.taken k.new)
+        (lines_from (dot.register_edge net.now met.now) 0 (length net.now.regs.items))) }
     ensures cause { HasCause (K.faults k.old) (K.faults k.new) result StoreFault.Failed }
 {
     let count = register_count(net);
@@ -420,8 +446,10 @@ fn put_all_mux_edges<K: Sink>(
 ) -> Result<(), StoreFault>
     requires well_formed { IsNet net.now }
     requires holds { AreHolds net.now holds.now }
-    ensures whole { OnOk result (Adds (K.taken k.old) (K.taken k.new) (lines_from (dot.mux_edges net.now holds.now met.now) 0 (length net.now.muxes.items))) }
-    ensures part { OnErr result (AddsPart (K.taken k.old) (K.taken k.new) (lines_from (dot.mux_edges net.now holds.now met.now) 0 (length net.now.muxes.items))) }
+    ensures whole { OnOk result (Adds (K.taken k.old) (K.taken k.new)
+        (lines_from (dot.mux_edges net.now holds.now met.now) 0 (length net.now.muxes.items))) }
+    ensures part { OnErr result (AddsPart (K.taken k.old) (K.taken k.new)
+        (lines_from (dot.mux_edges net.now holds.now met.now) 0 (length net.now.muxes.items))) }
     ensures cause { HasCause (K.faults k.old) (K.faults k.new) result StoreFault.Failed }
 {
     let count = mux_count(net);
@@ -472,8 +500,10 @@ fn put_graph<K: Sink>(
 ) -> Result<(), StoreFault>
     requires well_formed { IsNet net.now }
     requires holds { AreHolds net.now holds.now }
-    ensures whole { OnOk result (Adds (K.taken k.old) (K.taken k.new) (dot.graph_text net.now holds.now on marks.entry.marked marks.entry.met.now)) }
-    ensures part { OnErr result (AddsPart (K.taken k.old) (K.taken k.new) (dot.graph_text net.now holds.now on marks.entry.marked marks.entry.met.now)) }
+    ensures whole { OnOk result (Adds (K.taken k.old) (K.taken k.new)
+        (dot.graph_text net.now holds.now on marks.entry.marked marks.entry.met.now)) }
+    ensures part { OnErr result (AddsPart (K.taken k.old) (K.taken k.new)
+        (dot.graph_text net.now holds.now on marks.entry.marked marks.entry.met.now)) }
     ensures cause { HasCause (K.faults k.old) (K.faults k.new) result StoreFault.Failed }
 {
     put_head(k)?;
@@ -485,14 +515,16 @@ fn put_graph<K: Sink>(
     Ok(())
 }
 
-/// Writes a network as a graph in the language of Graphviz (DOT): a node for each register and each multiplexer, an edge from each scan
-/// source, with the select values of a row, and a dashed one from each select bit's register (IEEE 1687-2014, ICL: `ScanInSource`,
-/// `ScanMux`, `SelectedBy`). It asks for no nested form. What is on the active path of the state is in colour and thick, and nothing is
-/// where there is none; what is marked is red.
+/// Writes a network as a graph in the language of Graphviz (DOT): a node for each register and each
+/// multiplexer, an edge from each scan source, with the select values of a row, and a dashed one from each
+/// select bit's register (IEEE 1687-2014, ICL: `ScanInSource`, `ScanMux`, `SelectedBy`). It asks for no
+/// nested form. What is on the active path of the state is in colour and thick, and nothing is where there is
+/// none; what is marked is red.
 ///
 /// # Errors
 ///
-/// `Failed`, where the sink refuses a write, and want of memory. The sink then took some first bytes of the text.
+/// `Failed`, where the sink refuses a write, and want of memory. The sink then took some first bytes of the
+/// text.
 pub fn put_dot<K: Sink>(
     alloc: Global,
     net: &Net,
@@ -502,8 +534,10 @@ pub fn put_dot<K: Sink>(
 ) -> Result<(), StoreFault>
     requires well_formed { IsNet net.now }
     requires holds { AreHolds net.now holds.now }
-    ensures whole { OnOk result (Adds (K.taken k.old) (K.taken k.new) (dot.dot_text net.now holds.now marked)) }
-    ensures part { OnErr result (AddsPart (K.taken k.old) (K.taken k.new) (dot.dot_text net.now holds.now marked)) }
+    ensures whole { OnOk result
+        (Adds (K.taken k.old) (K.taken k.new) (dot.dot_text net.now holds.now marked)) }
+    ensures part { OnErr result
+        (AddsPart (K.taken k.old) (K.taken k.new) (dot.dot_text net.now holds.now marked)) }
     ensures cause { HasCause (K.faults k.old) (K.faults k.new) result StoreFault.Failed }
 {
     let on = has_path(alloc, net, holds)?;

@@ -10,7 +10,8 @@ use crate::plan::MuxPlan;
 use crate::shape::{RowEnd, Shape};
 use ij_bits::OutOfMemory;
 
-/// Where a funnel stands: its multiplexer, whether that is on the active path, its left edge and the height of its output.
+/// Where a funnel stands: its multiplexer, whether that is on the active path, its left edge and the height
+/// of its output.
 #[derive(Clone, Copy, Drop)]
 struct Funnel {
     mux: u32,
@@ -19,7 +20,8 @@ struct Funnel {
     y: u64,
 }
 
-/// Draws the wire from a full line to the beginning of the next one, and answers where the next item's wire begins.
+/// Draws the wire from a full line to the beginning of the next one, and answers where the next item's wire
+/// begins.
 fn draw_turn(active: bool, pen: Pen, shapes: &mut Vec<Shape>) -> Result<Pen, OutOfMemory>
     ensures pen { IfOk result (λ next. next ≡ pens.ready pen) }
     ensures shapes { OnOk result (shapes.new.items ≡ shapes.old.items ++ layout.turn_back active pen) }
@@ -76,7 +78,8 @@ pub(crate) fn draw_register(
     shapes: &mut Vec<Shape>,
 ) -> Result<Pen, OutOfMemory>
     ensures pen { IfOk result (λ next. next ≡ pens.after_register (pens.ready pen) width) }
-    ensures shapes { OnOk result (shapes.new.items ≡ shapes.old.items ++ layout.register_drawn active pen reg width) }
+    ensures shapes { OnOk result
+        (shapes.new.items ≡ shapes.old.items ++ layout.register_drawn active pen reg width) }
 {
     let from = draw_wire_to(active, pen, shapes)?;
     shapes.push(Shape::Register {
@@ -116,7 +119,8 @@ fn draw_row_shown(
     end: RowEnd,
     shapes: &mut Vec<Shape>,
 ) -> Result<(), OutOfMemory>
-    ensures { OnOk result (shapes.new.items ≡ shapes.old.items ++ layout.row_shown selected funnel.active funnel.x funnel.y end) }
+    ensures { OnOk result (shapes.new.items
+        ≡ shapes.old.items ++ layout.row_shown selected funnel.active funnel.x funnel.y end) }
 {
     if selected {
         shapes.push(Shape::Wire {
@@ -139,7 +143,8 @@ fn draw_row_close(
     end: RowEnd,
     shapes: &mut Vec<Shape>,
 ) -> Result<(), OutOfMemory>
-    ensures { OnOk result (shapes.new.items ≡ shapes.old.items ++ layout.row_close selected funnel.active funnel.mux q funnel.x funnel.y end) }
+    ensures { OnOk result (shapes.new.items
+        ≡ shapes.old.items ++ layout.row_close selected funnel.active funnel.mux q funnel.x funnel.y end) }
 {
     shapes.push(Shape::Wire {
         x: end.x,
@@ -165,7 +170,8 @@ fn draw_row_closes(
     ends: &[RowEnd],
     shapes: &mut Vec<Shape>,
 ) -> Result<(), OutOfMemory>
-    ensures { OnOk result (shapes.new.items ≡ shapes.old.items ++ layout.row_closes funnel.active row funnel.mux 0 funnel.x funnel.y ends.now) }
+    ensures { OnOk result (shapes.new.items
+        ≡ shapes.old.items ++ layout.row_closes funnel.active row funnel.mux 0 funnel.x funnel.y ends.now) }
 {
     for q in 0..ends.len() {
         draw_row_close(is_row(row, q), funnel, q, ends[q], shapes)?;
@@ -183,7 +189,8 @@ pub(crate) fn close_mux(
     ends: &[RowEnd],
     shapes: &mut Vec<Shape>,
 ) -> Result<(), OutOfMemory>
-    ensures { OnOk result (shapes.new.items ≡ shapes.old.items ++ layout.mux_close active part mux pen fan ends.now) }
+    ensures { OnOk result (shapes.new.items
+        ≡ shapes.old.items ++ layout.mux_close active part mux pen fan ends.now) }
 {
     let x = fan.funnel(part.values)?;
     let output = plus(x, 14)?;

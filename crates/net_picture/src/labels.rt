@@ -29,7 +29,8 @@ fn short_length(half: usize, letters: usize) -> usize
 #[tactic(auto, unfolding(crate::specs::Labels::ends_of, ij_io::specs::Words::words_text))]
 fn put_ends<'a, K: Sink>(front: &'a [u8], back: &'a [u8], k: &mut K) -> Result<(), StoreFault>
     ensures whole { OnOk result (Adds (K.taken k.old) (K.taken k.new) (labels.ends_of front.now back.now)) }
-    ensures part { OnErr result (AddsPart (K.taken k.old) (K.taken k.new) (labels.ends_of front.now back.now)) }
+    ensures part { OnErr result
+        (AddsPart (K.taken k.old) (K.taken k.new) (labels.ends_of front.now back.now)) }
     ensures cause { HasCause (K.faults k.old) (K.faults k.new) result StoreFault.Failed }
 {
     put_words(k, &[Word::Text(front), Word::Text(b".."), Word::Text(back)])
@@ -111,7 +112,8 @@ pub(crate) fn put_register_label<K: Sink>(net: &Net, reg: u32, k: &mut K) -> Res
     requires well_formed { IsNet net.now }
     requires there { reg < length net.now.regs.items }
     ensures whole { OnOk result (Adds (K.taken k.old) (K.taken k.new) (labels.register_label net.now reg)) }
-    ensures part { OnErr result (AddsPart (K.taken k.old) (K.taken k.new) (labels.register_label net.now reg)) }
+    ensures part { OnErr result
+        (AddsPart (K.taken k.old) (K.taken k.new) (labels.register_label net.now reg)) }
     ensures cause { HasCause (K.faults k.old) (K.faults k.new) result StoreFault.Failed }
 {
     put_register_path(net, reg, k)?;

@@ -1,5 +1,6 @@
 // The shapes of a nested form, from the entries of its tree.
-ghost use Rattle.std.specs.Prelude.{◌≡◌, ◌+◌, ◌-◌, ◌<◌, ◌≤◌, ◌&&◌, ◌++◌, ◌∷◌, [], ℕ, List, suc, drop, take, length, IfOk, OnOk};
+ghost use Rattle.std.specs.Prelude.{◌≡◌, ◌+◌, ◌-◌, ◌<◌, ◌≤◌, ◌&&◌, ◌++◌, ◌∷◌, [], ℕ, List, suc, drop, take};
+ghost use Rattle.std.specs.Prelude.{length, IfOk, OnOk};
 ghost use Rattle.net_tree.specs.declared.entry.Entry.{Entry};
 ghost use Rattle.net_tree.specs.Entries.{entries_of, row_entries, row_count};
 ghost use Rattle.net_tree.specs.Form.{Items, Rows};
@@ -33,7 +34,8 @@ struct RowsDrawn {
     fan: Fan,
 }
 
-/// A multiplexer whose rows are drawn: whether it is on the active path, the row that it is in, and where its wire begins.
+/// A multiplexer whose rows are drawn: whether it is on the active path, the row that it is in, and where its
+/// wire begins.
 #[derive(Clone, Copy, Drop)]
 struct Parting {
     active: bool,
@@ -70,7 +72,9 @@ pub(crate) fn draw_items(
     pen: Pen,
     shapes: &mut Vec<Shape>,
 ) -> Result<Pen, OutOfMemory>
-    ensures { IfOk result (λ end. (form : Items) → entries.now ≡ entries_of form → (end ≡ layout.pen_after (seen_plan plan.now) pen form) × (shapes.new.items ≡ shapes.old.items ++ layout.drawn (seen_plan plan.now) active pen form)) }
+    ensures { IfOk result (λ end. (form : Items) → entries.now ≡ entries_of form
+        → (end ≡ layout.pen_after (seen_plan plan.now) pen form)
+        × (shapes.new.items ≡ shapes.old.items ++ layout.drawn (seen_plan plan.now) active pen form)) }
 {
     let mut done = ItemsDrawn { at: 0, pen };
     while done.at < entries.len() {
@@ -92,7 +96,9 @@ fn draw_item(
     requires { done.at < length entries.now }
     ensures after { IfOk result (λ next. done.at < next.at) }
     ensures within { IfOk result (λ next. next.at ≤ length entries.now) }
-    ensures left { IfOk result (λ next. (end : Pen) (all : List Shape) → ItemsAreLeft (seen_plan plan.now) active (drop done.at entries.now) done.pen shapes.old.items end all → ItemsAreLeft (seen_plan plan.now) active (drop next.at entries.now) next.pen shapes.new.items end all) }
+    ensures left { IfOk result (λ next. (end : Pen) (all : List Shape) → ItemsAreLeft (seen_plan plan.now)
+        active (drop done.at entries.now) done.pen shapes.old.items end all → ItemsAreLeft
+        (seen_plan plan.now) active (drop next.at entries.now) next.pen shapes.new.items end all) }
 {
     match entries[done.at] {
         Entry::Reg(reg) => {
@@ -127,7 +133,10 @@ fn draw_mux(
     requires { done.at < length entries.now }
     ensures after { IfOk result (λ next. done.at < next.at) }
     ensures within { IfOk result (λ next. next.at ≤ length entries.now) }
-    ensures drawn { IfOk result (λ next. (rows : Rows) (after : List Entry) → drop (done.at + 1) entries.now ≡ row_entries rows ++ after → count ≡ row_count rows → (drop next.at entries.now ≡ after) × (next.pen ≡ layout.pen_past (seen_plan plan.now) done.pen mux rows) × (shapes.new.items ≡ shapes.old.items ++ layout.mux_drawn (seen_plan plan.now) active done.pen mux rows)) }
+    ensures drawn { IfOk result (λ next. (rows : Rows) (after : List Entry) → drop (done.at + 1) entries.now
+        ≡ row_entries rows ++ after → count ≡ row_count rows → (drop next.at entries.now ≡ after)
+        × (next.pen ≡ layout.pen_past (seen_plan plan.now) done.pen mux rows) × (shapes.new.items
+        ≡ shapes.old.items ++ layout.mux_drawn (seen_plan plan.now) active done.pen mux rows)) }
 {
     let part = plan.mux_of(mux);
     let pen = draw_wire_to(active, done.pen, shapes)?;
@@ -166,7 +175,11 @@ fn draw_rows(
     requires { begun.at ≤ length entries.now }
     ensures after { IfOk result (λ next. begun.at ≤ next.at) }
     ensures within { IfOk result (λ next. next.at ≤ length entries.now) }
-    ensures left { IfOk result (λ next. (after : List Entry) (end : Fan) (all : List Shape) (all_ends : List RowEnd) → RowsAreLeft (seen_plan plan.now) parting.active parting.row parting.pen 0 count (drop begun.at entries.now) after begun.fan shapes.old.items ends.old.items end all all_ends → RowsAreLeft (seen_plan plan.now) parting.active parting.row parting.pen count 0 (drop next.at entries.now) after next.fan shapes.new.items ends.new.items end all all_ends) }
+    ensures left { IfOk result (λ next. (after : List Entry) (end : Fan) (all : List Shape)
+        (all_ends : List RowEnd) → RowsAreLeft (seen_plan plan.now) parting.active parting.row parting.pen 0
+        count (drop begun.at entries.now) after begun.fan shapes.old.items ends.old.items end all all_ends
+        → RowsAreLeft (seen_plan plan.now) parting.active parting.row parting.pen count 0
+        (drop next.at entries.now) after next.fan shapes.new.items ends.new.items end all all_ends) }
 {
     let mut done = begun;
     for q in 0..count {
@@ -190,7 +203,11 @@ fn draw_row(
     requires { done.at ≤ length entries.now }
     ensures after { IfOk result (λ next. done.at ≤ next.at) }
     ensures within { IfOk result (λ next. next.at ≤ length entries.now) }
-    ensures left { IfOk result (λ next. (k : ℕ) (after : List Entry) (end : Fan) (all : List Shape) (all_ends : List RowEnd) → RowsAreLeft (seen_plan plan.now) parting.active parting.row parting.pen q (suc k) (drop done.at entries.now) after done.fan shapes.old.items ends.old.items end all all_ends → RowsAreLeft (seen_plan plan.now) parting.active parting.row parting.pen (suc q) k (drop next.at entries.now) after next.fan shapes.new.items ends.new.items end all all_ends) }
+    ensures left { IfOk result (λ next. (k : ℕ) (after : List Entry) (end : Fan) (all : List Shape)
+        (all_ends : List RowEnd) → RowsAreLeft (seen_plan plan.now) parting.active parting.row parting.pen q
+        (suc k) (drop done.at entries.now) after done.fan shapes.old.items ends.old.items end all all_ends
+        → RowsAreLeft (seen_plan plan.now) parting.active parting.row parting.pen (suc q) k
+        (drop next.at entries.now) after next.fan shapes.new.items ends.new.items end all all_ends) }
 {
     if entries.len() <= done.at {
         return Ok(done);
@@ -217,7 +234,8 @@ fn span_end(entries: &[Entry], at: usize, span: usize) -> usize
     requires { at < length entries.now }
     ensures after { at < result }
     ensures within { result ≤ length entries.now }
-    ensures part { take (result - (at + 1)) (drop (at + 1) entries.now) ≡ take span (drop (at + 1) entries.now) }
+    ensures part { take (result - (at + 1)) (drop (at + 1) entries.now)
+        ≡ take span (drop (at + 1) entries.now) }
     ensures rest { drop result entries.now ≡ drop span (drop (at + 1) entries.now) }
 {
     let left = entries.len() - at - 1;

@@ -57,7 +57,8 @@ fn passed_on(net: &Net, holds: &Holds, mux: u32) -> Option<Point>
     }
 }
 
-/// What stands before a point on the active path: nothing before scan-in, and nothing before a multiplexer that is in none of its rows.
+/// What stands before a point on the active path: nothing before scan-in, and nothing before a multiplexer
+/// that is in none of its rows.
 fn before(net: &Net, holds: &Holds, point: Point) -> Option<Point>
     requires well_formed { IsNet net.now }
     requires holds { AreHolds net.now holds.now }
@@ -117,7 +118,8 @@ fn meet(
     requires holds { AreHolds net.now holds.now }
     requires there { IfSome now (IsPointOf net.now) }
     ensures there { IfOk result (λ next. IfSome next (IsPointOf net.now)) }
-    ensures left { IfOk result (λ next. (n : ℕ) → points.new.items ++ mets.met_from net.now holds.now n next ≡ points.old.items ++ mets.met_from net.now holds.now (suc n) now) }
+    ensures left { IfOk result (λ next. (n : ℕ) → points.new.items ++ mets.met_from net.now holds.now n next
+        ≡ points.old.items ++ mets.met_from net.now holds.now (suc n) now) }
 {
     match now {
         Some(point) => {

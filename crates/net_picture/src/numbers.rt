@@ -3,8 +3,8 @@ ghost use Rattle.std.specs.Prelude.{◌≡◌, ◌+◌, ◌*◌, max, IfOk};
 
 use ij_bits::OutOfMemory;
 
-/// The sum. A drawing that is wider or higher than a number can say would need more memory than there is, so it is refused as one that
-/// finds none.
+/// The sum. A drawing that is wider or higher than a number can say would need more memory than there is, so
+/// it is refused as one that finds none.
 pub(crate) fn plus(a: u64, b: u64) -> Result<u64, OutOfMemory>
     ensures { IfOk result (λ sum. sum ≡ a + b) }
 {

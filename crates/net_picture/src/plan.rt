@@ -9,8 +9,8 @@ use ij_bits::OutOfMemory;
 use net_graph::{Holds, Net, path, register_count, row_of};
 use std::alloc::Global;
 
-/// What has to be known of a multiplexer: the room to the left of its funnel, for the select values of its rows, that to the right, for
-/// its name, in units of the view, and the row that it is in.
+/// What has to be known of a multiplexer: the room to the left of its funnel, for the select values of its
+/// rows, that to the right, for its name, in units of the view, and the row that it is in.
 #[derive(Clone, Copy, Drop)]
 pub(crate) struct MuxPlan {
     pub values: u64,

@@ -13,7 +13,8 @@ pub(crate) enum Shape {
         width: u64,
         active: bool,
     },
-    /// A multiplexer: a funnel from x on, 14 wide, with its output at y and so high between its first and its last row.
+    /// A multiplexer: a funnel from x on, 14 wide, with its output at y and so high between its first and its
+    /// last row.
     Mux {
         mux: u32,
         x: u64,

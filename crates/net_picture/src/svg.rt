@@ -57,8 +57,10 @@ struct FunnelText<'a> {
 /// Writes a box.
 #[tactic(auto, unfolding(crate::specs::Svg::box_text, ij_io::specs::Words::words_text))]
 fn put_box<K: Sink>(it: BoxText<'_>, k: &mut K) -> Result<(), StoreFault>
-    ensures whole { OnOk result (Adds (K.taken k.old) (K.taken k.new) (svg.box_text it.entry.title.now it.entry.label.now it.entry.class.now it.entry.round it.entry.x it.entry.y it.entry.width)) }
-    ensures part { OnErr result (AddsPart (K.taken k.old) (K.taken k.new) (svg.box_text it.entry.title.now it.entry.label.now it.entry.class.now it.entry.round it.entry.x it.entry.y it.entry.width)) }
+    ensures whole { OnOk result (Adds (K.taken k.old) (K.taken k.new) (svg.box_text it.entry.title.now
+        it.entry.label.now it.entry.class.now it.entry.round it.entry.x it.entry.y it.entry.width)) }
+    ensures part { OnErr result (AddsPart (K.taken k.old) (K.taken k.new) (svg.box_text it.entry.title.now
+        it.entry.label.now it.entry.class.now it.entry.round it.entry.x it.entry.y it.entry.width)) }
     ensures cause { HasCause (K.faults k.old) (K.faults k.new) result StoreFault.Failed }
 {
     let words = [
@@ -86,8 +88,10 @@ fn put_box<K: Sink>(it: BoxText<'_>, k: &mut K) -> Result<(), StoreFault>
 /// Writes a funnel.
 #[tactic(auto, unfolding(crate::specs::Svg::funnel_text, ij_io::specs::Words::words_text))]
 fn put_funnel<K: Sink>(it: FunnelText<'_>, k: &mut K) -> Result<(), StoreFault>
-    ensures whole { OnOk result (Adds (K.taken k.old) (K.taken k.new) (svg.funnel_text it.entry.title.now it.entry.label.now it.entry.class.now it.entry.x it.entry.y it.entry.height)) }
-    ensures part { OnErr result (AddsPart (K.taken k.old) (K.taken k.new) (svg.funnel_text it.entry.title.now it.entry.label.now it.entry.class.now it.entry.x it.entry.y it.entry.height)) }
+    ensures whole { OnOk result (Adds (K.taken k.old) (K.taken k.new) (svg.funnel_text it.entry.title.now
+        it.entry.label.now it.entry.class.now it.entry.x it.entry.y it.entry.height)) }
+    ensures part { OnErr result (AddsPart (K.taken k.old) (K.taken k.new) (svg.funnel_text it.entry.title.now
+        it.entry.label.now it.entry.class.now it.entry.x it.entry.y it.entry.height)) }
     ensures cause { HasCause (K.faults k.old) (K.faults k.new) result StoreFault.Failed }
 {
     let words = [
@@ -121,8 +125,10 @@ fn put_register<K: Sink>(
 ) -> Result<(), StoreFault>
     requires well_formed { IsNet net.now }
     requires there { reg < length net.now.regs.items }
-    ensures whole { OnOk result (Adds (K.taken k.old) (K.taken k.new) (svg.register_text net.now reg x y width active)) }
-    ensures part { OnErr result (AddsPart (K.taken k.old) (K.taken k.new) (svg.register_text net.now reg x y width active)) }
+    ensures whole { OnOk result
+        (Adds (K.taken k.old) (K.taken k.new) (svg.register_text net.now reg x y width active)) }
+    ensures part { OnErr result
+        (AddsPart (K.taken k.old) (K.taken k.new) (svg.register_text net.now reg x y width active)) }
     ensures cause { HasCause (K.faults k.old) (K.faults k.new) result StoreFault.Failed }
 {
     let muxes = selected_by(alloc, net, reg)?;
@@ -153,8 +159,10 @@ fn put_mux<K: Sink>(
 ) -> Result<(), StoreFault>
     requires well_formed { IsNet net.now }
     requires there { mux < length net.now.muxes.items }
-    ensures whole { OnOk result (Adds (K.taken k.old) (K.taken k.new) (svg.mux_text net.now mux x y height active)) }
-    ensures part { OnErr result (AddsPart (K.taken k.old) (K.taken k.new) (svg.mux_text net.now mux x y height active)) }
+    ensures whole { OnOk result
+        (Adds (K.taken k.old) (K.taken k.new) (svg.mux_text net.now mux x y height active)) }
+    ensures part { OnErr result
+        (AddsPart (K.taken k.old) (K.taken k.new) (svg.mux_text net.now mux x y height active)) }
     ensures cause { HasCause (K.faults k.old) (K.faults k.new) result StoreFault.Failed }
 {
     let title = mux_title(alloc, net, mux)?;
@@ -183,7 +191,8 @@ fn put_values<K: Sink>(
 ) -> Result<(), StoreFault>
     requires { mux < length net.now.muxes.items }
     ensures whole { OnOk result (Adds (K.taken k.old) (K.taken k.new) (svg.values_text net.now mux row x y)) }
-    ensures part { OnErr result (AddsPart (K.taken k.old) (K.taken k.new) (svg.values_text net.now mux row x y)) }
+    ensures part { OnErr result
+        (AddsPart (K.taken k.old) (K.taken k.new) (svg.values_text net.now mux row x y)) }
     ensures cause { HasCause (K.faults k.old) (K.faults k.new) result StoreFault.Failed }
 {
     let label = short_values(alloc, net, mux, row)?;
@@ -210,8 +219,10 @@ fn put_wire<K: Sink>(
     active: bool,
     k: &mut K,
 ) -> Result<(), StoreFault>
-    ensures whole { OnOk result (Adds (K.taken k.old) (K.taken k.new) (svg.wire_text x y turn to_x to_y active)) }
-    ensures part { OnErr result (AddsPart (K.taken k.old) (K.taken k.new) (svg.wire_text x y turn to_x to_y active)) }
+    ensures whole { OnOk result
+        (Adds (K.taken k.old) (K.taken k.new) (svg.wire_text x y turn to_x to_y active)) }
+    ensures part { OnErr result
+        (AddsPart (K.taken k.old) (K.taken k.new) (svg.wire_text x y turn to_x to_y active)) }
     ensures cause { HasCause (K.faults k.old) (K.faults k.new) result StoreFault.Failed }
 {
     let words = [
@@ -277,8 +288,10 @@ fn put_in_layer<K: Sink>(
 ) -> Result<(), StoreFault>
     requires well_formed { IsNet net.now }
     requires there { IsShapeOf net.now shape }
-    ensures whole { OnOk result (Adds (K.taken k.old) (K.taken k.new) (svg.text_in_layer net.now layer shape)) }
-    ensures part { OnErr result (AddsPart (K.taken k.old) (K.taken k.new) (svg.text_in_layer net.now layer shape)) }
+    ensures whole { OnOk result
+        (Adds (K.taken k.old) (K.taken k.new) (svg.text_in_layer net.now layer shape)) }
+    ensures part { OnErr result
+        (AddsPart (K.taken k.old) (K.taken k.new) (svg.text_in_layer net.now layer shape)) }
     ensures cause { HasCause (K.faults k.old) (K.faults k.new) result StoreFault.Failed }
 {
     if shape.is_active() == layer {
@@ -298,8 +311,10 @@ fn put_layer<K: Sink>(
 ) -> Result<(), StoreFault>
     requires well_formed { IsNet net.now }
     requires there { All (IsShapeOf net.now) shapes.now }
-    ensures whole { OnOk result (Adds (K.taken k.old) (K.taken k.new) (svg.layer_text net.now layer shapes.now)) }
-    ensures part { OnErr result (AddsPart (K.taken k.old) (K.taken k.new) (svg.layer_text net.now layer shapes.now)) }
+    ensures whole { OnOk result
+        (Adds (K.taken k.old) (K.taken k.new) (svg.layer_text net.now layer shapes.now)) }
+    ensures part { OnErr result
+        (AddsPart (K.taken k.old) (K.taken k.new) (svg.layer_text net.now layer shapes.now)) }
     ensures cause { HasCause (K.faults k.old) (K.faults k.new) result StoreFault.Failed }
 {
     for shape in shapes {
@@ -370,8 +385,10 @@ fn put_drawing<K: Sink>(
 ) -> Result<(), StoreFault>
     requires well_formed { IsNet net.now }
     requires there { All (IsShapeOf net.now) shapes.now }
-    ensures whole { OnOk result (Adds (K.taken k.old) (K.taken k.new) (svg.view_text net.now view shapes.now)) }
-    ensures part { OnErr result (AddsPart (K.taken k.old) (K.taken k.new) (svg.view_text net.now view shapes.now)) }
+    ensures whole { OnOk result
+        (Adds (K.taken k.old) (K.taken k.new) (svg.view_text net.now view shapes.now)) }
+    ensures part { OnErr result
+        (AddsPart (K.taken k.old) (K.taken k.new) (svg.view_text net.now view shapes.now)) }
     ensures cause { HasCause (K.faults k.old) (K.faults k.new) result StoreFault.Failed }
 {
     put_size(view.width, view.height, k)?;
@@ -383,17 +400,20 @@ fn put_drawing<K: Sink>(
     Ok(())
 }
 
-/// Writes a drawing of the network as one file of scalable vector graphics (W3C, SVG 1.1): registers as boxes, multiplexers as funnels
-/// with their rows one below the other, wires from TDI to TDO, and the active path of the state in colour (IEEE 1687-2014: active scan
-/// path). A box is round at its ends where its register selects.
+/// Writes a drawing of the network as one file of scalable vector graphics (W3C, SVG 1.1): registers as
+/// boxes, multiplexers as funnels with their rows one below the other, wires from TDI to TDO, and the active
+/// path of the state in colour (IEEE 1687-2014: active scan path). A box is round at its ends where its
+/// register selects.
 ///
-/// Tooltips (`<title>`) have paths, bits, reset values (the left bit first, an x where it has none), select bits and select values, and
-/// the outputs of instruments that a register captures (`CaptureSource`); labels are cut in the middle where they are long. A list
-/// of items is broken into lines where it is long. Where there is no active path, nothing is in colour.
+/// Tooltips (`<title>`) have paths, bits, reset values (the left bit first, an x where it has none), select
+/// bits and select values, and the outputs of instruments that a register captures (`CaptureSource`); labels
+/// are cut in the middle where they are long. A list of items is broken into lines where it is long. Where
+/// there is no active path, nothing is in colour.
 ///
 /// # Errors
 ///
-/// `Failed`, where the sink refuses a write, and want of memory. The sink then took some first bytes of the text.
+/// `Failed`, where the sink refuses a write, and want of memory. The sink then took some first bytes of the
+/// text.
 pub fn put_svg<K: Sink>(
     alloc: Global,
     net: &Net,
@@ -404,8 +424,10 @@ pub fn put_svg<K: Sink>(
     requires well_formed { IsNet net.now }
     requires form { Describes net.now tree.now }
     requires holds { AreHolds net.now holds.now }
-    ensures whole { OnOk result (Adds (K.taken k.old) (K.taken k.new) (svg.svg_text net.now tree.now holds.now)) }
-    ensures part { OnErr result (AddsPart (K.taken k.old) (K.taken k.new) (svg.svg_text net.now tree.now holds.now)) }
+    ensures whole { OnOk result
+        (Adds (K.taken k.old) (K.taken k.new) (svg.svg_text net.now tree.now holds.now)) }
+    ensures part { OnErr result
+        (AddsPart (K.taken k.old) (K.taken k.new) (svg.svg_text net.now tree.now holds.now)) }
     ensures cause { HasCause (K.faults k.old) (K.faults k.new) result StoreFault.Failed }
 {
     let drawing = drawing_of(alloc, net, tree, holds)?;

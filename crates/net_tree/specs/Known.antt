@@ -1,5 +1,6 @@
 -- The rows around registers or around muxes, in a table.
-use Rattle.std.specs.Prelude.{◌≡◌, ◌<◌, ◌≤◌, ℕ, List, [], length, map, slice_index_or, All, Option, Some, None}
+use Rattle.std.specs.Prelude.{◌≡◌, ◌<◌, ◌≤◌, ℕ, List, [], length, map, slice_index_or, All, Option, Some}
+use Rattle.std.specs.Prelude.{None}
 use Rattle.net_graph.specs.declared.branch.Branch.{Branch}
 use Rattle.net_graph.specs.declared.net.Point.{Point}
 use Rattle.net_tree.specs.declared.entry.Entry.{Entry}
@@ -22,4 +23,5 @@ IsShort (Some place) = length place.items ≤ 16
 abbrev pub AreKnown : (ℕ → Point) → List Entry → List (Option (SmallVec Branch)) → Type 0
 AreKnown kind entries table =
     All IsShort table
-    × ((i : ℕ) → i < length table → known_or (known_at table i) [] ≡ map branch_of (seek 0 entries start (kind i)))
+    × ((i : ℕ) → i < length table
+    → known_or (known_at table i) [] ≡ map branch_of (seek 0 entries start (kind i)))

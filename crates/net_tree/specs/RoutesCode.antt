@@ -24,7 +24,8 @@ abbrev pub row_from : RowParts → OneBit
 row_from (bit, (zero, one)) = record { bit = bit; zero = zero; one = one }
 
 abbrev pub row_code : Coded OneBit
-row_code = code_by RowParts (coded× bit_code (coded× (coded_option coded_ℕ) (coded_option coded_ℕ))) row_parts row_from (λ _. refl)
+row_code = code_by RowParts
+    (coded× bit_code (coded× (coded_option coded_ℕ) (coded_option coded_ℕ))) row_parts row_from (λ _. refl)
 
 abbrev pub RouteParts : Type 0
 RouteParts = List ℕ × (ℕ × List (Option OneBit))
@@ -36,4 +37,5 @@ abbrev pub route_from : RouteParts → Routed
 route_from (items, (spare, rows)) = record { items = items; spare = spare; rows = rows }
 
 abbrev pub route_code : Coded Routed
-route_code = code_by RouteParts (coded× (coded_list coded_ℕ) (coded× coded_ℕ (coded_list (coded_option row_code)))) route_parts route_from (λ _. refl)
+route_code = code_by RouteParts (coded× (coded_list coded_ℕ)
+    (coded× coded_ℕ (coded_list (coded_option row_code)))) route_parts route_from (λ _. refl)

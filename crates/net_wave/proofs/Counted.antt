@@ -1,5 +1,6 @@
 -- How often a variable is declared.
-use Rattle.std.proofs.Common.{◌≡◌, ℕ, zero, suc, ◌+◌, ◌<◌, Bool, true, false, cond, List, [], ◌∷◌, ◌++◌, refl, ap, sym, ◌∙◌, arith}
+use Rattle.std.proofs.Common.{◌≡◌, ℕ, zero, suc, ◌+◌, ◌<◌, Bool, true, false, cond, List, [], ◌∷◌, ◌++◌, refl}
+use Rattle.std.proofs.Common.{ap, sym, ◌∙◌, arith}
 use Rattle.std.specs.Prelude.{◌==◌}
 use Rattle.std.proofs.lemmas.Bool.Decides.{nat_tests}
 use Rattle.net_wave.specs.declared.var.Item.{Item}
@@ -21,16 +22,30 @@ module _ (v : Var) where
   pub none_to : (f : ℕ → List Item) (n : ℕ) → ((k : ℕ) → k < n → seen (f k) ≡ 0) → seen (up_to f n) ≡ 0
   none_to f zero h = refl
   none_to f (suc n) h =
-      omega (arith, seen_both (up_to f n) (f n), none_to f n (λ k l. h k (omega (arith, l))), h n (omega arith))
+      omega (
+        arith,
+        seen_both (up_to f n) (f n),
+        none_to f n (λ k l. h k (omega (arith, l))),
+        h n (omega arith),
+      )
 
-  pub one_to : (f : ℕ → List Item) (n j : ℕ) → j < n → seen (f j) ≡ 1 → ((k : ℕ) → k < n → (k ≡ j → ⊥) → seen (f k) ≡ 0) → seen (up_to f n) ≡ 1
+  pub one_to : (f : ℕ → List Item) (n j : ℕ) → j < n → seen (f j) ≡ 1
+      → ((k : ℕ) → k < n → (k ≡ j → ⊥) → seen (f k) ≡ 0) → seen (up_to f n) ≡ 1
   one_to f zero j l here others = absurd (omega (arith, l))
-  one_to f (suc n) j l here others = cases (λ m. one_to f n j m here (λ k g. others k (omega (arith, g)))) (n == j) refl
+  one_to f (suc n) j l here others =
+      cases (λ m. one_to f n j m here (λ k g. others k (omega (arith, g)))) (n == j) refl
     where
       cases : (j < n → seen (up_to f n) ≡ 1) → (b : Bool) → (n == j) ≡ b → seen (up_to f (suc n)) ≡ 1
       cases high true e =
           let same : n ≡ j = grind (arith, nat_tests) in
-          omega (arith, seen_both (up_to f n) (f n), none_to f n (λ k m. others k (omega (arith, m)) (λ d. omega (arith, m, d, same))), ap (λ (k : ℕ). seen (f k)) same, here)
+          omega (
+            arith,
+            seen_both (up_to f n) (f n),
+            none_to f n (λ k m. others k (omega (arith, m))
+                (λ d. omega (arith, m, d, same))),
+            ap (λ (k : ℕ). seen (f k)) same,
+            here,
+          )
       cases high false e =
           let other : n ≡ j → ⊥ = λ d. grind (arith, nat_tests) in
           let below : j < n = omega (arith, l, other) in
@@ -42,7 +57,8 @@ module _ (v : Var) where
     section k = up_to (λ i. cond (at i == k) (body i) []) n
 
     there : (k i : ℕ) → at i ≡ k → seen (cond (at i == k) (body i) []) ≡ seen (body i)
-    there k i e = let yes : (at i == k) ≡ true = grind (arith, nat_tests) in ap (λ (b : Bool). seen (cond b (body i) [])) yes
+    there k i e = let yes : (at i == k) ≡ true = grind (arith, nat_tests) in
+        ap (λ (b : Bool). seen (cond b (body i) [])) yes
 
     elsewhere : (k i : ℕ) → (at i ≡ k → ⊥) → seen (cond (at i == k) (body i) []) ≡ 0
     elsewhere k i e = cases (at i == k) refl
@@ -61,11 +77,14 @@ module _ (v : Var) where
     pub section_none : (k : ℕ) → ((i : ℕ) → i < n → seen (body i) ≡ 0) → seen (section k) ≡ 0
     section_none k h = none_to (λ i. cond (at i == k) (body i) []) n (λ i l. nothing k i (h i l))
 
-    pub section_one : (k j : ℕ) → j < n → at j ≡ k → seen (body j) ≡ 1 → ((i : ℕ) → (i ≡ j → ⊥) → seen (body i) ≡ 0) → seen (section k) ≡ 1
+    pub section_one : (k j : ℕ) → j < n → at j ≡ k → seen (body j) ≡ 1
+        → ((i : ℕ) → (i ≡ j → ⊥) → seen (body i) ≡ 0) → seen (section k) ≡ 1
     section_one k j l e here others =
-        one_to (λ i. cond (at i == k) (body i) []) n j l (there k j e ∙ here) (λ i m d. nothing k i (others i d))
+        one_to (λ i. cond (at i == k) (body i) []) n j l
+        (there k j e ∙ here) (λ i m d. nothing k i (others i d))
 
-    pub section_other : (k j : ℕ) → (at j ≡ k → ⊥) → ((i : ℕ) → (i ≡ j → ⊥) → seen (body i) ≡ 0) → seen (section k) ≡ 0
+    pub section_other : (k j : ℕ) → (at j ≡ k → ⊥)
+        → ((i : ℕ) → (i ≡ j → ⊥) → seen (body i) ≡ 0) → seen (section k) ≡ 0
     section_other k j e others = none_to (λ i. cond (at i == k) (body i) []) n (λ i m. cases i (i == j) refl)
       where
         cases : (i : ℕ) (b : Bool) → (i == j) ≡ b → seen (cond (at i == k) (body i) []) ≡ 0

@@ -1,5 +1,6 @@
 -- Shift stages beside a bench: where a clock changes some, these are on the active path, and the path stays.
-use Rattle.std.proofs.Common.{◌≡◌, ℕ, Bool, true, false, cond, List, [], ◌∷◌, length, refl, ap, sym, ◌∙◌, subst, arith, length-append}
+use Rattle.std.proofs.Common.{◌≡◌, ℕ, Bool, true, false, cond, List, [], ◌∷◌, length, refl, ap, sym, ◌∙◌}
+use Rattle.std.proofs.Common.{subst, arith, length-append}
 use Rattle.instruments.specs.declared.Counts.{Counts}
 use Rattle.instruments.specs.Machine.{Machine, count_log}
 use Rattle.instruments.specs.OnNetwork.{outputs}
@@ -14,10 +15,12 @@ use Rattle.net_graph.proofs.Chains.{chain-put_chain, put_chain-chain}
 use Rattle.net_graph.proofs.Routes.{route_in}
 use Rattle.net_graph.proofs.Shapes.{length-captures, length-chain, put_chain-shape, total}
 use Rattle.net_bench.proofs.Wide.{captures_wide}
-use Rattle.net_bench.specs.Bench.{Chip, State, act, capture_bits, clock, dr_bits, enter, fault_free, put_dr, run_from, select_of, update_dr}
+use Rattle.net_bench.specs.Bench.{Chip, State, act, capture_bits, clock, dr_bits, enter, fault_free, put_dr}
+use Rattle.net_bench.specs.Bench.{run_from, select_of, update_dr}
 use Rattle.net_bench.specs.Instruction.{Selected, Network, Identity, Bypass}
 use Rattle.tap_machine.specs.declared.TapState.{TapState}
-use Rattle.tap_machine.specs.declared.TapState.TheVariants.{TestLogicReset, RunTestIdle, CaptureDr, ShiftDr, UpdateDr, UpdateIr}
+use Rattle.tap_machine.specs.declared.TapState.TheVariants.{TestLogicReset, RunTestIdle, CaptureDr, ShiftDr}
+use Rattle.tap_machine.specs.declared.TapState.TheVariants.{UpdateDr, UpdateIr}
 use Rattle.tap_machine.specs.Tap.{next}
 use Rattle.std.specs.Prelude.{◌&&◌}
 use Rattle.net_wave.specs.Changes.{shifts_in}
@@ -39,10 +42,12 @@ module _ (net : Net) (device : Device) (machines : List Machine) (is : IsNet net
     abbrev p : List ℕ
     p = route_of net s.holds
 
-    put : (bits : List Bool) → length bits ≡ length (chain p s.stages) → IsStaged p s.stages (put_chain p bits s.stages)
+    put : (bits : List Bool) → length bits ≡ length (chain p s.stages)
+        → IsStaged p s.stages (put_chain p bits s.stages)
     put bits fits =
         record {
-          again = ap (λ b. put_chain p b s.stages) (chain-put_chain p bits s.stages (route_in net s.holds s.stages is h) fits);
+          again = ap (λ b. put_chain p b s.stages)
+              (chain-put_chain p bits s.stages (route_in net s.holds s.stages is h) fits);
           shape = put_chain-shape p bits s.stages fits ∙ h;
         }
 
@@ -60,7 +65,8 @@ module _ (net : Net) (device : Device) (machines : List Machine) (is : IsNet net
     captured Identity = same
     captured Bypass = same
 
-    shifted : (x : Selected) (tdi : Bool) → IsStaged p s.stages (put_dr chip x (shift (dr_bits chip x s) tdi) s).stages
+    shifted : (x : Selected) (tdi : Bool)
+        → IsStaged p s.stages (put_dr chip x (shift (dr_bits chip x s) tdi) s).stages
     shifted Network tdi = put (shift (chain p s.stages) tdi) (length_shift (chain p s.stages) tdi)
     shifted Identity tdi = same
     shifted Bypass tdi = same
@@ -92,47 +98,69 @@ module _ (net : Net) (device : Device) (machines : List Machine) (is : IsNet net
   -- after a clock: the shape of the stages, and that they are the old ones with those of the path
   abbrev Keeps : TapState → State Counts → State Counts → Type 0
   Keeps tap s t =
-      AreHolds net t.stages × (cond (shifts_in tap) (put_chain (route_of net t.holds) (chain (route_of net t.holds) t.stages) s.stages) s.stages ≡ t.stages)
+      AreHolds net t.stages × (cond (shifts_in tap) (put_chain (route_of net t.holds)
+      (chain (route_of net t.holds) t.stages) s.stages) s.stages ≡ t.stages)
 
-  shifting : (s t : State Counts) → t.holds ≡ s.holds → IsStaged (route_of net s.holds) s.stages t.stages → AreHolds net t.stages × (put_chain (route_of net t.holds) (chain (route_of net t.holds) t.stages) s.stages ≡ t.stages)
-  shifting s t holds staged =
-      (staged.shape, ap (λ (h : Holds). put_chain (route_of net h) (chain (route_of net h) t.stages) s.stages) holds ∙ staged.again)
+  shifting : (s t : State Counts) → t.holds ≡ s.holds
+      → IsStaged (route_of net s.holds) s.stages t.stages → AreHolds net t.stages
+      × (put_chain (route_of net t.holds) (chain (route_of net t.holds) t.stages) s.stages ≡ t.stages)
+  shifting s t holds staged = (
+    staged.shape,
+    ap (λ (h : Holds). put_chain (route_of net h) (chain (route_of net h) t.stages) s.stages)
+        holds ∙ staged.again,
+  )
 
-  resting : (s t : State Counts) → AreHolds net s.stages → t.stages ≡ s.stages → AreHolds net t.stages × (s.stages ≡ t.stages)
+  resting : (s t : State Counts) → AreHolds net s.stages → t.stages ≡ s.stages
+      → AreHolds net t.stages × (s.stages ≡ t.stages)
   resting s t h e = (subst (λ (x : Holds). AreHolds net x) (sym e) h, sym e)
 
-  keeps : (tap : TapState) (tms tdi : Bool) (s : State Counts) → AreHolds net s.stages → Keeps tap s (after tap tms tdi s)
+  keeps : (tap : TapState) (tms tdi : Bool) (s : State Counts)
+      → AreHolds net s.stages → Keeps tap s (after tap tms tdi s)
   keeps CaptureDr false tdi s h =
-      shifting s (after CaptureDr false tdi s) (put_holds (select_of chip s) (capture_bits chip (select_of chip s) s) s) (captured s h (select_of chip s))
+      shifting s (after CaptureDr false tdi s) (put_holds (select_of chip s)
+      (capture_bits chip (select_of chip s) s) s) (captured s h (select_of chip s))
   keeps CaptureDr true tdi s h =
-      shifting s (after CaptureDr true tdi s) (put_holds (select_of chip s) (capture_bits chip (select_of chip s) s) s) (captured s h (select_of chip s))
+      shifting s (after CaptureDr true tdi s) (put_holds (select_of chip s)
+      (capture_bits chip (select_of chip s) s) s) (captured s h (select_of chip s))
   keeps ShiftDr false tdi s h =
-      shifting s (after ShiftDr false tdi s) (put_holds (select_of chip s) (shift (dr_bits chip (select_of chip s) s) tdi) s) (shifted s h (select_of chip s) tdi)
+      shifting s (after ShiftDr false tdi s) (put_holds (select_of chip s)
+      (shift (dr_bits chip (select_of chip s) s) tdi) s) (shifted s h (select_of chip s) tdi)
   keeps ShiftDr true tdi s h =
-      shifting s (after ShiftDr true tdi s) (put_holds (select_of chip s) (shift (dr_bits chip (select_of chip s) s) tdi) s) (shifted s h (select_of chip s) tdi)
+      shifting s (after ShiftDr true tdi s) (put_holds (select_of chip s)
+      (shift (dr_bits chip (select_of chip s) s) tdi) s) (shifted s h (select_of chip s) tdi)
   keeps tap tms tdi s h =
-      resting s (after tap tms tdi s) h (enter_stages tap (next tap tms) (record (act chip tap tdi s) { tap = next tap tms }))
+      resting s (after tap tms tdi s) h
+      (enter_stages tap (next tap tms) (record (act chip tap tdi s) { tap = next tap tms }))
 
-  pub clock_keeps : (tms tdi : Bool) (s t : State Counts) → t ≡ clock chip tms tdi s → AreHolds net s.stages → Keeps s.tap s t
+  pub clock_keeps : (tms tdi : Bool) (s t : State Counts) → t ≡ clock chip tms tdi s
+      → AreHolds net s.stages → Keeps s.tap s t
   unfolding clock
   clock_keeps tms tdi s t e h = subst (Keeps s.tap s) (sym e) (keeps s.tap tms tdi s h)
 
   -- the stages that are kept beside the bench are its own
-  pub stepped : (tms tdi : Bool) (s t : State Counts) (b : Net) (k : Bool) (old new : Holds) → t ≡ clock chip tms tdi s → b ≡ net → k ≡ shifts_in s.tap → old ≡ s.stages → AreHolds net old
-      → new ≡ cond k (put_chain (route_of b t.holds) (chain (route_of b t.holds) t.stages) old) old → AreHolds net new × (new ≡ t.stages)
+  pub stepped : (tms tdi : Bool) (s t : State Counts) (b : Net) (k : Bool) (old new : Holds)
+      → t ≡ clock chip tms tdi s → b ≡ net → k ≡ shifts_in s.tap → old ≡ s.stages → AreHolds net old
+      → new ≡ cond k (put_chain (route_of b t.holds) (chain (route_of b t.holds) t.stages) old) old
+      → AreHolds net new × (new ≡ t.stages)
   stepped tms tdi s t b k old new e n shifts same h is =
       let kept = clock_keeps tms tdi s t e (subst (λ (x : Holds). AreHolds net x) same h) in
       let all : new ≡ t.stages =
       is
-      ∙ ap (λ (x : Net). cond k (put_chain (route_of x t.holds) (chain (route_of x t.holds) t.stages) old) old) n
-      ∙ ap (λ (x : Bool). cond x (put_chain (route_of net t.holds) (chain (route_of net t.holds) t.stages) old) old) shifts
-      ∙ ap (λ (x : Holds). cond (shifts_in s.tap) (put_chain (route_of net t.holds) (chain (route_of net t.holds) t.stages) x) x) same
+      ∙ ap (λ (x : Net). cond k
+      (put_chain (route_of x t.holds) (chain (route_of x t.holds) t.stages) old) old) n
+      ∙ ap (λ (x : Bool). cond x
+      (put_chain (route_of net t.holds) (chain (route_of net t.holds) t.stages) old) old) shifts
+      ∙ ap (λ (x : Holds). cond (shifts_in s.tap)
+      (put_chain (route_of net t.holds) (chain (route_of net t.holds) t.stages) x) x) same
       ∙ kept.1 in
       (subst (λ (x : Holds). AreHolds net x) (sym all) kept.0, all)
 
   -- the same where they are kept at all
-  pub kept_beside : (tms tdi : Bool) (s t : State Counts) (b : Net) (kept k : Bool) (old new : Holds) → t ≡ clock chip tms tdi s → b ≡ net → k ≡ shifts_in s.tap → (kept ≡ true → old ≡ s.stages) → AreHolds net old
-      → new ≡ cond (kept && k) (put_chain (route_of b t.holds) (chain (route_of b t.holds) t.stages) old) old → AreHolds net new × (kept ≡ true → new ≡ t.stages)
+  pub kept_beside : (tms tdi : Bool) (s t : State Counts) (b : Net) (kept k : Bool) (old new : Holds)
+      → t ≡ clock chip tms tdi s → b ≡ net → k ≡ shifts_in s.tap
+      → (kept ≡ true → old ≡ s.stages) → AreHolds net old
+      → new ≡ cond (kept && k) (put_chain (route_of b t.holds) (chain (route_of b t.holds) t.stages) old) old
+      → AreHolds net new × (kept ≡ true → new ≡ t.stages)
   kept_beside tms tdi s t b true k old new e n shifts same h is =
       let all = stepped tms tdi s t b k old new e n shifts (same refl) h is in (all.0, λ _. all.1)
   kept_beside tms tdi s t b false k old new e n shifts same h is =

@@ -1,5 +1,6 @@
 -- Values that stay from one clock to the next.
-use Rattle.std.proofs.Common.{◌≡◌, ℕ, Bool, true, false, not, List, [], ◌∷◌, ◌<◌, get_or, length, refl, ap, sym, ◌∙◌, subst, arith}
+use Rattle.std.proofs.Common.{◌≡◌, ℕ, Bool, true, false, not, List, [], ◌∷◌, ◌<◌, get_or, length, refl, ap}
+use Rattle.std.proofs.Common.{sym, ◌∙◌, subst, arith}
 use Rattle.std.specs.Prelude.{◌==◌, ◌||◌, ◌&&◌}
 use Rattle.std.proofs.lemmas.Bool.Decides.{nat_tests}
 use Rattle.std.proofs.lemmas.List.{get_or-map}
@@ -8,17 +9,21 @@ use Rattle.instruments.specs.declared.Counts.{Counts}
 use Rattle.instruments.specs.OnNetwork.{Running}
 use Rattle.instruments.specs.Seen.{SeenModel}
 use Rattle.net_graph.specs.Signals.{Holds}
-use Rattle.net_bench.specs.Bench.{Chip, State, act, capture_bits, clock, dr_bits, enter, put_dr, run_from, select_of, tdo, update_dr}
+use Rattle.net_bench.specs.Bench.{Chip, State, act, capture_bits, clock, dr_bits, enter, put_dr, run_from}
+use Rattle.net_bench.specs.Bench.{select_of, tdo, update_dr}
 use Rattle.net_bench.specs.Instruction.{Selected, Network, Identity, Bypass}
 use Rattle.net_graph.specs.Chain.{shift}
 use Rattle.report.specs.Registers.{digit}
 use Rattle.tap_machine.specs.declared.Pins.{Pins}
 use Rattle.tap_machine.specs.declared.TapState.{TapState}
-use Rattle.tap_machine.specs.declared.TapState.TheVariants.{TestLogicReset, RunTestIdle, CaptureDr, ShiftDr, UpdateDr, CaptureIr, ShiftIr, UpdateIr}
+use Rattle.tap_machine.specs.declared.TapState.TheVariants.{TestLogicReset, RunTestIdle, CaptureDr, ShiftDr}
+use Rattle.tap_machine.specs.declared.TapState.TheVariants.{UpdateDr, CaptureIr, ShiftIr, UpdateIr}
 use Rattle.tap_machine.specs.Tap.{next}
 use Rattle.net_wave.specs.declared.shown.Shown.{Shown}
 use Rattle.net_wave.specs.declared.var.Var.{Var}
-use Rattle.net_wave.specs.declared.var.Var.TheVariants.{Tms, Tdi, Tdo, Expect, Differs, Tap, Instruction, Scan, Bit, Update, Shift, OnPath, Row, Input, Output, Word}
+use Rattle.net_wave.specs.declared.var.Var.TheVariants.{Tms, Tdi, Tdo, Expect, Differs, Tap, Instruction}
+use Rattle.net_wave.specs.declared.var.Var.TheVariants.{Scan, Bit, Update, Shift, OnPath, Row, Input, Output}
+use Rattle.net_wave.specs.declared.var.Var.TheVariants.{Word}
 use Rattle.net_wave.specs.Changes.{WasTold, is_idle, loads, may_change, runs, shifts_in, shown_at, updates}
 use Rattle.net_wave.specs.Values.{differs, expect_digit, number_digits, tap_code, value, values}
 
@@ -84,7 +89,8 @@ module _ (chip : Chip Counts) where
   act_insts ShiftIr tdi s = refl
   act_insts _ tdi s = refl
 
-  act_stages : (tap : TapState) (tdi : Bool) (s : State Counts) → shifts_in tap ≡ false → (act chip tap tdi s).stages ≡ s.stages
+  act_stages : (tap : TapState) (tdi : Bool) (s : State Counts) → shifts_in tap ≡ false
+      → (act chip tap tdi s).stages ≡ s.stages
   act_stages CaptureDr tdi s e = absurd (cc)
   act_stages ShiftDr tdi s e = absurd (cc)
   act_stages CaptureIr tdi s e = refl
@@ -122,7 +128,8 @@ module _ (chip : Chip Counts) where
   run_stages RunTestIdle s = refl
   run_stages _ s = refl
 
-  run_insts : (before : TapState) (s : State Counts) → is_idle before ≡ false → (run_from chip before s).insts ≡ s.insts
+  run_insts : (before : TapState) (s : State Counts) → is_idle before ≡ false
+      → (run_from chip before s).insts ≡ s.insts
   run_insts RunTestIdle s e = absurd (cc)
   run_insts _ s e = refl
 
@@ -133,14 +140,16 @@ module _ (chip : Chip Counts) where
   enter_tap before RunTestIdle s = run_tap before s
   enter_tap before _ s = refl
 
-  enter_holds : (before after : TapState) (s : State Counts) → updates after ≡ false → (enter chip before after s).holds ≡ s.holds
+  enter_holds : (before after : TapState) (s : State Counts) → updates after ≡ false
+      → (enter chip before after s).holds ≡ s.holds
   enter_holds before UpdateIr s e = refl
   enter_holds before UpdateDr s e = absurd (cc)
   enter_holds before TestLogicReset s e = absurd (cc)
   enter_holds before RunTestIdle s e = run_holds before s
   enter_holds before _ s e = refl
 
-  enter_ir : (before after : TapState) (s : State Counts) → loads after ≡ false → (enter chip before after s).ir_hold ≡ s.ir_hold
+  enter_ir : (before after : TapState) (s : State Counts) → loads after ≡ false
+      → (enter chip before after s).ir_hold ≡ s.ir_hold
   enter_ir before UpdateIr s e = absurd (cc)
   enter_ir before UpdateDr s e = update_ir (select_of chip s) s
   enter_ir before TestLogicReset s e = absurd (cc)
@@ -155,11 +164,13 @@ module _ (chip : Chip Counts) where
   enter_stages before _ s = refl
 
   -- instruments that have no event
-  idle_insts : (before : TapState) (s : State Counts) → (is_idle before && true) ≡ false → (run_from chip before s).insts ≡ s.insts
+  idle_insts : (before : TapState) (s : State Counts) → (is_idle before && true) ≡ false
+      → (run_from chip before s).insts ≡ s.insts
   idle_insts RunTestIdle s e = absurd (cc)
   idle_insts _ s e = refl
 
-  enter_insts : (before after : TapState) (s : State Counts) → runs before after ≡ false → (enter chip before after s).insts ≡ s.insts
+  enter_insts : (before after : TapState) (s : State Counts) → runs before after ≡ false
+      → (enter chip before after s).insts ≡ s.insts
   enter_insts before UpdateIr s e = refl
   enter_insts before UpdateDr s e = absurd (cc)
   enter_insts before TestLogicReset s e = absurd (cc)
@@ -179,7 +190,8 @@ module _ (chip : Chip Counts) where
 
     pub holds_stay : updates t.tap ≡ false → t.holds ≡ s.holds
     unfolding clock
-    holds_stay e = enter_holds s.tap (next s.tap tms) mid (sym (ap updates tap_is) ∙ e) ∙ act_holds s.tap tdi s
+    holds_stay e = enter_holds s.tap (next s.tap tms) mid
+        (sym (ap updates tap_is) ∙ e) ∙ act_holds s.tap tdi s
 
     pub ir_stays : loads t.tap ≡ false → t.ir_hold ≡ s.ir_hold
     unfolding clock
@@ -187,7 +199,8 @@ module _ (chip : Chip Counts) where
 
     pub insts_stay : runs s.tap t.tap ≡ false → t.insts ≡ s.insts
     unfolding clock
-    insts_stay e = enter_insts s.tap (next s.tap tms) mid (sym (ap (runs s.tap) tap_is) ∙ e) ∙ act_insts s.tap tdi s
+    insts_stay e = enter_insts s.tap (next s.tap tms) mid
+        (sym (ap (runs s.tap) tap_is) ∙ e) ∙ act_insts s.tap tdi s
 
     pub stages_stay : shifts_in s.tap ≡ false → t.stages ≡ s.stages
     unfolding clock
@@ -200,36 +213,52 @@ module _ (chip : Chip Counts) where
     after = clock chip q.tms q.tdi s
 
     -- a variable that can't have changed has the value of the clock before
-    pub value_stays : (v : Var) → may_change (shown_at chip q s) (shown_at chip p after) v ≡ false → value chip models v p after ≡ value chip models v q s
+    pub value_stays : (v : Var) → may_change (shown_at chip q s) (shown_at chip p after) v ≡ false
+        → value chip models v p after ≡ value chip models v q s
     value_stays Tms e = ap (λ (b : Bool). digit b ∷ []) (same_bits q.tms p.tms e)
     value_stays Tdi e = ap (λ (b : Bool). digit b ∷ []) (same_bits q.tdi p.tdi e)
     value_stays Tdo e = ap (λ (b : Bool). digit b ∷ []) (same_bits (tdo chip s) (tdo chip after) e)
-    value_stays Expect e = ap (λ (n : ℕ). n ∷ []) (same_numbers (expect_digit q.expect) (expect_digit p.expect) e)
+    value_stays Expect e =
+        ap (λ (n : ℕ). n ∷ []) (same_numbers (expect_digit q.expect) (expect_digit p.expect) e)
     value_stays Differs e =
-        ap (λ (b : Bool). digit b ∷ []) (same_bits (differs q.expect (tdo chip s)) (differs p.expect (tdo chip after)) e)
+        ap (λ (b : Bool). digit b ∷ [])
+        (same_bits (differs q.expect (tdo chip s)) (differs p.expect (tdo chip after)) e)
     value_stays Tap e = ap (number_digits 4) (same_numbers (tap_code s.tap) (tap_code after.tap) e)
-    value_stays Instruction e = ap (λ (bits : List Bool). value chip models Instruction q (record s { ir_hold = bits })) (ir_stays q.tms q.tdi s e)
+    value_stays Instruction e = ap (λ (bits : List Bool). value chip models Instruction q
+        (record s { ir_hold = bits })) (ir_stays q.tms q.tdi s e)
     value_stays Scan e = ap (number_digits 32) (same_numbers q.scan p.scan e)
     value_stays Bit e = ap (number_digits 16) (same_numbers q.bit p.bit e)
-    value_stays (Update r) e = ap (λ (h : Holds). value chip models (Update r) q (record s { holds = h })) (holds_stay q.tms q.tdi s e)
-    value_stays (Shift r) e = ap (λ (h : Holds). value chip models (Shift r) q (record s { stages = h })) (stages_stay q.tms q.tdi s e)
-    value_stays (OnPath r) e = ap (λ (h : Holds). value chip models (OnPath r) q (record s { holds = h })) (holds_stay q.tms q.tdi s e)
-    value_stays (Row m) e = ap (λ (h : Holds). value chip models (Row m) q (record s { holds = h })) (holds_stay q.tms q.tdi s e)
+    value_stays (Update r) e = ap
+        (λ (h : Holds). value chip models (Update r) q (record s { holds = h })) (holds_stay q.tms q.tdi s e)
+    value_stays (Shift r) e = ap (λ (h : Holds). value chip models (Shift r) q (record s { stages = h }))
+        (stages_stay q.tms q.tdi s e)
+    value_stays (OnPath r) e = ap
+        (λ (h : Holds). value chip models (OnPath r) q (record s { holds = h })) (holds_stay q.tms q.tdi s e)
+    value_stays (Row m) e =
+        ap (λ (h : Holds). value chip models (Row m) q (record s { holds = h })) (holds_stay q.tms q.tdi s e)
     value_stays (Input i n) e =
-        ap (λ (h : Holds). value chip models (Input i n) q (record after { holds = h })) (holds_stay q.tms q.tdi s (either_false (updates after.tap) (is_idle s.tap && is_idle after.tap) e))
-        ∙ ap (λ (x : List (Running Counts)). value chip models (Input i n) q (record s { insts = x })) (insts_stay q.tms q.tdi s e)
-    value_stays (Output i n) e = ap (λ (x : List (Running Counts)). value chip models (Output i n) q (record s { insts = x })) (insts_stay q.tms q.tdi s e)
-    value_stays (Word i w) e = ap (λ (x : List (Running Counts)). value chip models (Word i w) q (record s { insts = x })) (insts_stay q.tms q.tdi s e)
+        ap (λ (h : Holds). value chip models (Input i n) q (record after { holds = h })) (holds_stay q.tms
+        q.tdi s (either_false (updates after.tap) (is_idle s.tap && is_idle after.tap) e))
+        ∙ ap (λ (x : List (Running Counts)). value chip models (Input i n) q (record s { insts = x }))
+        (insts_stay q.tms q.tdi s e)
+    value_stays (Output i n) e = ap (λ (x : List (Running Counts)). value chip models (Output i n) q
+        (record s { insts = x })) (insts_stay q.tms q.tdi s e)
+    value_stays (Word i w) e = ap (λ (x : List (Running Counts)). value chip models (Word i w) q
+        (record s { insts = x })) (insts_stay q.tms q.tdi s e)
 
   -- what was told of a variable that can't have changed is its value now
-  pub told_stays : (models : List SeenModel) (vars : List Var) (told : List (List ℕ)) (last : Shown) (p : Pins) (s : State Counts) (k : ℕ) (d : Var) → WasTold chip models vars told last s → k < length vars → may_change last (shown_at chip p s) (get_or vars k d) ≡ false
+  pub told_stays : (models : List SeenModel) (vars : List Var) (told : List (List ℕ)) (last : Shown)
+      (p : Pins) (s : State Counts) (k : ℕ) (d : Var) → WasTold chip models vars told last s → k < length vars
+      → may_change last (shown_at chip p s) (get_or vars k d) ≡ false
       → get_or told k [] ≡ get_or (values chip models vars p s) k []
   told_stays models vars told last p s k d was h e =
       let v = get_or vars k d in
       let q = last.pins in
       let b = was.before in
-      let one : may_change (shown_at chip q b) (shown_at chip p s) v ≡ false = subst (λ (x : Shown). may_change x (shown_at chip p s) v ≡ false) was.shown e in
-      let two : may_change (shown_at chip q b) (shown_at chip p (clock chip q.tms q.tdi b)) v ≡ false = subst (λ (x : State Counts). may_change (shown_at chip q b) (shown_at chip p x) v ≡ false) was.next one in
+      let one : may_change (shown_at chip q b) (shown_at chip p s) v
+      ≡ false = subst (λ (x : Shown). may_change x (shown_at chip p s) v ≡ false) was.shown e in
+      let two : may_change (shown_at chip q b) (shown_at chip p (clock chip q.tms q.tdi b)) v ≡ false = subst
+      (λ (x : State Counts). may_change (shown_at chip q b) (shown_at chip p x) v ≡ false) was.next one in
       ap (λ (l : List (List ℕ)). get_or l k []) was.all
       ∙ get_or-map (λ (x : Var). value chip models x q b) vars k d [] h
       ∙ sym (value_stays models q p b v two)

@@ -1,12 +1,14 @@
 -- Each value has as many digits as its variable is declared with.
-use Rattle.std.proofs.Common.{◌≡◌, ℕ, zero, suc, ◌==◌, Bool, true, false, cond, Option, Some, None, List, [], ◌∷◌, length, map, get_or, refl, ap, sym, ◌∙◌, arith, length-append}
+use Rattle.std.proofs.Common.{◌≡◌, ℕ, zero, suc, ◌==◌, Bool, true, false, cond, Option, Some, None, List, []}
+use Rattle.std.proofs.Common.{◌∷◌, length, map, get_or, refl, ap, sym, ◌∙◌, arith, length-append}
 use Rattle.std.proofs.lemmas.List.{length-replicate}
 use Rattle.std.proofs.lemmas.Bool.Decides.{nat_tests}
 use Rattle.bench_report.specs.Report.{chip}
 use Rattle.ij_bits.proofs.WordBits.{length-bits_of}
 use Rattle.instruments.specs.declared.Counts.{Counts}
 use Rattle.instruments.specs.Seen.{SeenModel}
-use Rattle.net_bench.specs.Bench.{Chip, State, act, capture_bits, clock, dr_bits, enter, power_up, put_dr, run_from, select_of, update_dr}
+use Rattle.net_bench.specs.Bench.{Chip, State, act, capture_bits, clock, dr_bits, enter, power_up, put_dr}
+use Rattle.net_bench.specs.Bench.{run_from, select_of, update_dr}
 use Rattle.net_bench.specs.Instruction.{Selected, Network, Identity, Bypass, reset_instruction}
 use Rattle.net_bench.specs.Playing.{after_pins}
 use Rattle.net_bench.specs.Laws.{IsShaped}
@@ -20,10 +22,13 @@ use Rattle.net_graph.specs.Signals.{Holds, bits_at}
 use Rattle.net_graph.proofs.Shapes.{capture_widths, length_at, widths}
 use Rattle.tap_machine.specs.declared.Pins.{Pins}
 use Rattle.tap_machine.specs.declared.TapState.{TapState}
-use Rattle.tap_machine.specs.declared.TapState.TheVariants.{TestLogicReset, RunTestIdle, CaptureDr, ShiftDr, UpdateDr, UpdateIr}
+use Rattle.tap_machine.specs.declared.TapState.TheVariants.{TestLogicReset, RunTestIdle, CaptureDr, ShiftDr}
+use Rattle.tap_machine.specs.declared.TapState.TheVariants.{UpdateDr, UpdateIr}
 use Rattle.tap_machine.specs.Tap.{next}
 use Rattle.net_wave.specs.declared.var.Var.{Var}
-use Rattle.net_wave.specs.declared.var.Var.TheVariants.{Tms, Tdi, Tdo, Expect, Differs, Tap, Instruction, Scan, Bit, Update, Shift, OnPath, Row, Input, Output, Word}
+use Rattle.net_wave.specs.declared.var.Var.TheVariants.{Tms, Tdi, Tdo, Expect, Differs, Tap, Instruction}
+use Rattle.net_wave.specs.declared.var.Var.TheVariants.{Scan, Bit, Update, Shift, OnPath, Row, Input, Output}
+use Rattle.net_wave.specs.declared.var.Var.TheVariants.{Word}
 use Rattle.net_wave.specs.Header.{one_bit, ranged, shape, wide}
 use Rattle.net_wave.specs.Values.{digits, is_odd_at, row_digits, tap_code, unknown, value}
 use Rattle.net_wave.specs.Widths.{WidthsAgree}
@@ -80,7 +85,9 @@ module _ (c : Chip Counts) where
   run_held _ s = refl
 
   -- where the instruction register is taken over, what it holds is what is in its stage
-  enter_held : (before after : TapState) (s : State Counts) → length (enter c before after s).ir_stage ≡ c.device.ir → length s.ir_hold ≡ c.device.ir → length (enter c before after s).ir_hold ≡ c.device.ir
+  enter_held : (before after : TapState) (s : State Counts)
+      → length (enter c before after s).ir_stage ≡ c.device.ir → length s.ir_hold ≡ c.device.ir
+      → length (enter c before after s).ir_hold ≡ c.device.ir
   enter_held before UpdateIr s stage hold = stage
   enter_held before UpdateDr s stage hold = ap length (update_held (select_of c s) s) ∙ hold
   enter_held before TestLogicReset s stage hold = reset_long c.device
@@ -92,30 +99,36 @@ module _ (c : Chip Counts) where
     pub shaped : IsShaped c s
     pub held : length s.ir_hold ≡ c.device.ir
 
-  clock_held : (tms tdi : Bool) (s : State Counts) → IsShaped c (clock c tms tdi s) → length s.ir_hold ≡ c.device.ir → length (clock c tms tdi s).ir_hold ≡ c.device.ir
+  clock_held : (tms tdi : Bool) (s : State Counts) → IsShaped c (clock c tms tdi s)
+      → length s.ir_hold ≡ c.device.ir → length (clock c tms tdi s).ir_hold ≡ c.device.ir
   unfolding clock
   clock_held tms tdi s after held =
-      enter_held s.tap (next s.tap tms) (record (act c s.tap tdi s) { tap = next s.tap tms }) after.ir (ap length (act_held s.tap tdi s) ∙ held)
+      enter_held s.tap (next s.tap tms) (record (act c s.tap tdi s) { tap = next s.tap tms }) after.ir
+      (ap length (act_held s.tap tdi s) ∙ held)
 
-  pub played_fits : capture_widths c.net ≡ widths c.net → (ps : List Pins) (s : State Counts) → Fits s → Fits (after_pins c ps s)
+  pub played_fits : capture_widths c.net ≡ widths c.net
+      → (ps : List Pins) (s : State Counts) → Fits s → Fits (after_pins c ps s)
   played_fits wide [] s h = h
   played_fits wide (p ∷ ps) s h =
       let after = stays_shaped c (p ∷ []) s wide h.shaped in
-      played_fits wide ps (clock c p.tms p.tdi s) (record { shaped = after; held = clock_held p.tms p.tdi s after h.held })
+      played_fits wide ps (clock c p.tms p.tdi s)
+      (record { shaped = after; held = clock_held p.tms p.tdi s after h.held })
 
   pub begins : Fits (power_up c)
   begins = record { shaped = is_shaped_first c; held = reset_long c.device }
 
 -- ---- values
 
-bits_long : (net : Net) (holds : Holds) (r : ℕ) → map length holds ≡ widths net → length (bits_at holds r) ≡ width_of net r
+bits_long : (net : Net) (holds : Holds) (r : ℕ) → map length holds ≡ widths net
+    → length (bits_at holds r) ≡ width_of net r
 bits_long net holds r h = length_at holds r ∙ ap (λ (ns : List ℕ). get_or ns r 0) h
 
 module _ (net : Net) (device : Device) (models : List SeenModel) where
   abbrev it : Chip Counts
   it = chip net device models
 
-  pub value_long : (v : Var) (p : Pins) (s : State Counts) → Fits it s → length (value it models v p s) ≡ (shape net device models v).width
+  pub value_long : (v : Var) (p : Pins) (s : State Counts) → Fits it s
+      → length (value it models v p s) ≡ (shape net device models v).width
   value_long Tms p s h = refl
   value_long Tdi p s h = refl
   value_long Tdo p s h = refl
@@ -125,8 +138,10 @@ module _ (net : Net) (device : Device) (models : List SeenModel) where
   value_long Instruction p s h = digits_long _ (length s.ir_hold) ∙ h.held
   value_long Scan p s h = digits_long (is_odd_at p.scan) 32
   value_long Bit p s h = digits_long (is_odd_at p.bit) 16
-  value_long (Update r) p s h = digits_long _ (length (bits_at s.holds r)) ∙ bits_long net s.holds r h.shaped.holds
-  value_long (Shift r) p s h = digits_long _ (length (bits_at s.stages r)) ∙ bits_long net s.stages r h.shaped.stages
+  value_long (Update r) p s h = digits_long _ (length (bits_at s.holds r))
+      ∙ bits_long net s.holds r h.shaped.holds
+  value_long (Shift r) p s h = digits_long _ (length (bits_at s.stages r))
+      ∙ bits_long net s.stages r h.shaped.stages
   value_long (OnPath r) p s h = refl
   value_long (Row m) p s h = row_long _ _
   value_long (Input i n) p s h = digits_long _ _ ∙ sym (wide_is _)
@@ -136,4 +151,5 @@ module _ (net : Net) (device : Device) (models : List SeenModel) where
 pub widths_agree : WidthsAgree
 widths_agree net device models v played p is =
     let it = chip net device models in
-    value_long net device models v p (after_pins it played (power_up it)) (played_fits it (captures_wide net net.regs.items is.regs) played (power_up it) (begins it))
+    value_long net device models v p (after_pins it played (power_up it))
+    (played_fits it (captures_wide net net.regs.items is.regs) played (power_up it) (begins it))

@@ -1,6 +1,8 @@
--- What may change from one clock to the next: at the pins what stands there, on the chip what a clock between two states of the TAP
--- controller can move (IEEE 1149.1-2013, clause 6; IEEE 1687-2014, hardware rules: capture, shift, update, reset and instruments).
-use Rattle.std.specs.Prelude.{◌≡◌, ◌<◌, ◌≤◌, ℕ, ◌+◌, ◌==◌, ◌||◌, ◌&&◌, not, Bool, true, false, codes, List, [], ◌∷◌, ◌++◌, get_or, length}
+-- What may change from one clock to the next: at the pins what stands there, on the chip what a clock between
+-- two states of the TAP controller can move (IEEE 1149.1-2013, clause 6; IEEE 1687-2014, hardware rules:
+-- capture, shift, update, reset and instruments).
+use Rattle.std.specs.Prelude.{◌≡◌, ◌<◌, ◌≤◌, ℕ, ◌+◌, ◌==◌, ◌||◌, ◌&&◌, not, Bool, true, false, codes, List}
+use Rattle.std.specs.Prelude.{[], ◌∷◌, ◌++◌, get_or, length}
 use Rattle.std.specs.List.{flat_map}
 use Rattle.ij_bits.specs.BitLists.{same_bit}
 use Rattle.instruments.specs.declared.Counts.{Counts}
@@ -8,10 +10,13 @@ use Rattle.instruments.specs.Seen.{SeenModel}
 use Rattle.net_bench.specs.Bench.{Chip, State, clock, tdo}
 use Rattle.tap_machine.specs.declared.Pins.{Pins}
 use Rattle.tap_machine.specs.declared.TapState.{TapState}
-use Rattle.tap_machine.specs.declared.TapState.TheVariants.{TestLogicReset, RunTestIdle, CaptureDr, ShiftDr, UpdateDr, UpdateIr}
+use Rattle.tap_machine.specs.declared.TapState.TheVariants.{TestLogicReset, RunTestIdle, CaptureDr, ShiftDr}
+use Rattle.tap_machine.specs.declared.TapState.TheVariants.{UpdateDr, UpdateIr}
 use Rattle.net_wave.specs.declared.shown.Shown.{Shown}
 use Rattle.net_wave.specs.declared.var.Var.{Var}
-use Rattle.net_wave.specs.declared.var.Var.TheVariants.{Tms, Tdi, Tdo, Expect, Differs, Tap, Instruction, Scan, Bit, Update, Shift, OnPath, Row, Input, Output, Word}
+use Rattle.net_wave.specs.declared.var.Var.TheVariants.{Tms, Tdi, Tdo, Expect, Differs, Tap, Instruction}
+use Rattle.net_wave.specs.declared.var.Var.TheVariants.{Scan, Bit, Update, Shift, OnPath, Row, Input, Output}
+use Rattle.net_wave.specs.declared.var.Var.TheVariants.{Word}
 use Rattle.report.specs.Registers.{digit}
 use Rattle.net_wave.specs.Moments.{Change, change_if, change_text, trimmed}
 use Rattle.net_wave.specs.Values.{differs, expect_digit, number_digits, tap_code, values}
@@ -73,10 +78,12 @@ is_shift _ = false
 
 -- the variables from a place on stay from this clock to the next
 abbrev pub Stay : Shown → Shown → List Var → ℕ → Type 0
-Stay before now vars place = (k : ℕ) → place ≤ k → k < length vars → may_change before now (get_or vars k Tms) ≡ false
+Stay before now vars place = (k : ℕ) → place ≤ k → k < length vars
+    → may_change before now (get_or vars k Tms) ≡ false
 
 -- what was written are the values of the clock before, which began in a state with these pins
-pub record WasTold (chip : Chip Counts) (models : List SeenModel) (vars : List Var) (told : List (List ℕ)) (last : Shown) (s : State Counts) : Type 0 where
+pub record WasTold (chip : Chip Counts) (models : List SeenModel) (vars : List Var) (told : List (List ℕ))
+    (last : Shown) (s : State Counts) : Type 0 where
   pub before : State Counts
   pub all : told ≡ values chip models vars last.pins before
   pub shown : last ≡ shown_at chip last.pins before
@@ -90,7 +97,9 @@ pin_vars = Tms ∷ Tdi ∷ Tdo ∷ Expect ∷ Differs ∷ Tap ∷ Instruction �
 -- their digits at a clock that shows something, with those of the instruction
 abbrev pub pin_digits : Shown → List ℕ → List (List ℕ)
 pin_digits s instruction =
-    (digit s.pins.tms ∷ []) ∷ (digit s.pins.tdi ∷ []) ∷ (digit s.tdo ∷ []) ∷ (expect_digit s.pins.expect ∷ []) ∷ (digit (differs s.pins.expect s.tdo) ∷ []) ∷ number_digits 4 (tap_code s.tap) ∷ instruction ∷ number_digits 32 s.pins.scan ∷ number_digits 16 s.pins.bit ∷ []
+    (digit s.pins.tms ∷ []) ∷ (digit s.pins.tdi ∷ []) ∷ (digit s.tdo ∷ []) ∷ (expect_digit s.pins.expect ∷ [])
+    ∷ (digit (differs s.pins.expect s.tdo) ∷ []) ∷ number_digits 4 (tap_code s.tap) ∷ instruction
+    ∷ number_digits 32 s.pins.scan ∷ number_digits 16 s.pins.bit ∷ []
 
 -- what is written of a variable, by its number
 abbrev pub told_if : Bool → ℕ → List ℕ → List ℕ → List ℕ

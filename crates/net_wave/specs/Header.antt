@@ -1,5 +1,6 @@
 -- The declarations of a wave (IEEE 1364-2005, 18.2.3: $timescale, $scope, $var, $upscope, $enddefinitions).
-use Rattle.std.specs.Prelude.{ℕ, suc, ◌-◌, ◌==◌, ◌&&◌, Bool, true, false, cond, List, [], ◌∷◌, ◌++◌, codes, decimal, get_or, length, map, Option, Some, None}
+use Rattle.std.specs.Prelude.{ℕ, suc, ◌-◌, ◌==◌, ◌&&◌, Bool, true, false, cond, List, [], ◌∷◌, ◌++◌, codes}
+use Rattle.std.specs.Prelude.{decimal, get_or, length, map, Option, Some, None}
 use Rattle.instruments.specs.Seen.{SeenModel}
 use Rattle.net_graph.specs.declared.device.Device.{Device}
 use Rattle.net_graph.specs.declared.net.Net.{Net}
@@ -12,7 +13,9 @@ use Rattle.net_wave.specs.declared.var.Item.TheVariants.{Open, Declare, Close}
 use Rattle.net_wave.specs.declared.var.Scope.{Scope}
 use Rattle.net_wave.specs.declared.var.Scope.TheVariants.{Node, Register, Multiplexer, Words}
 use Rattle.net_wave.specs.declared.var.Var.{Var}
-use Rattle.net_wave.specs.declared.var.Var.TheVariants.{Tms, Tdi, Tdo, Expect, Differs, Tap, Instruction, Scan, Bit, Update, Shift, OnPath, Row, Input, Output, Word}
+use Rattle.net_wave.specs.declared.var.Var.TheVariants.{Tms, Tdi, Tdo, Expect, Differs, Tap, Instruction}
+use Rattle.net_wave.specs.declared.var.Var.TheVariants.{Scan, Bit, Update, Shift, OnPath, Row, Input, Output}
+use Rattle.net_wave.specs.declared.var.Var.TheVariants.{Word}
 use Rattle.net_wave.specs.Codes.{code}
 use Rattle.net_wave.specs.Vars.{words_of}
 use Rattle.net_wave.specs.Values.{drivers, output_width, row_width, word_width}
@@ -31,10 +34,12 @@ abbrev pub mux_name : Net → ℕ → List ℕ
 mux_name net m = get_or (map (λ mux. mux.name.items) net.muxes.items) m []
 
 abbrev pub input_name : Net → ℕ → ℕ → List ℕ
-input_name net i p = get_or (get_or (map (λ inst. map (λ port. port.name.items) inst.ins.items) net.insts.items) i []) p []
+input_name net i p =
+    get_or (get_or (map (λ inst. map (λ port. port.name.items) inst.ins.items) net.insts.items) i []) p []
 
 abbrev pub output_name : Net → ℕ → ℕ → List ℕ
-output_name net i p = get_or (get_or (map (λ inst. map (λ port. port.name.items) inst.outs.items) net.insts.items) i []) p []
+output_name net i p =
+    get_or (get_or (map (λ inst. map (λ port. port.name.items) inst.outs.items) net.insts.items) i []) p []
 
 abbrev pub word_name : List SeenModel → ℕ → ℕ → List ℕ
 word_name models i w = get_or (map (λ word. word.name) (words_of models i)) w []
@@ -85,7 +90,11 @@ right_of net r = get_or (map (λ thing. thing.right) net.things.items) (thing_of
 
 abbrev pub between : ℕ → ℕ → ℕ → Shape
 between width left right =
-    record { width = width; range = cond ((width == 1) && (left == 0)) None (Some (record { left = left; right = right })) }
+    record {
+      width = width;
+      range =
+          cond ((width == 1) && (left == 0)) None (Some (record { left = left; right = right }));
+    }
 
 abbrev pub register_shape : Net → ℕ → Shape
 register_shape net r = between (width_of net r) (left_of net r) (right_of net r)
@@ -138,7 +147,8 @@ front_text pin width = kind_text pin ++ (decimal width ++ codes " ")
 abbrev pub var_text : Net → Device → List SeenModel → ℕ → Var → List ℕ
 var_text net device models n v =
     let it = shape net device models v in
-    front_text (is_pin v) it.width ++ (code n ++ (codes " " ++ (var_name net models v ++ (range_text it.range ++ codes " $end\n"))))
+    front_text (is_pin v) it.width
+    ++ (code n ++ (codes " " ++ (var_name net models v ++ (range_text it.range ++ codes " $end\n"))))
 
 abbrev pub scope_text : List ℕ → List ℕ
 scope_text name = codes "$scope module " ++ (name ++ codes " $end\n")

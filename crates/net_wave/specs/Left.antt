@@ -1,5 +1,6 @@
 -- What is left of a play that is under way: its moments, as text.
-use Rattle.std.specs.Prelude.{◌≡◌, ◌<◌, ◌≤◌, ℕ, ◌*◌, ◌||◌, Bool, true, false, List, ◌∷◌, ◌++◌, decimal, drop, get_or, length, map, take, All}
+use Rattle.std.specs.Prelude.{◌≡◌, ◌<◌, ◌≤◌, ℕ, ◌*◌, ◌||◌, Bool, true, false, List, ◌∷◌, ◌++◌, decimal, drop}
+use Rattle.std.specs.Prelude.{get_or, length, map, take, All}
 use Rattle.std.specs.List.{list_any}
 use Rattle.ij_bits.specs.Room.{Listed}
 use Rattle.bench_report.specs.Report.{chip_of}
@@ -17,7 +18,8 @@ use Rattle.net_wave.specs.declared.var.Var.TheVariants.{Tms}
 use Rattle.net_wave.specs.declared.var.Var.{Var}
 use Rattle.net_wave.specs.Changes.{WasTold, is_shift, pin_digits, pin_vars}
 use Rattle.net_wave.specs.Header.{is_pin}
-use Rattle.net_wave.specs.Moments.{counted, falling, moment_text, moments_from, moments_text, next_clock, rising}
+use Rattle.net_wave.specs.Moments.{counted, falling, moment_text, moments_from, moments_text, next_clock}
+use Rattle.net_wave.specs.Moments.{rising}
 use Rattle.net_wave.specs.Values.{values}
 use Rattle.net_wave.specs.Vars.{IsVar}
 use Rattle.net_wave.specs.Wave.{is_any}
@@ -26,7 +28,8 @@ use Rattle.net_wave.specs.Wave.{is_any}
 abbrev pub told_of : List (Listed ℕ) → List (List ℕ)
 told_of told = map (λ digits. digits.items) told
 
--- the bench is that of the network and the models, and the shift stages beside it are its own where they are to be shown
+-- the bench is that of the network and the models, and the shift stages beside it are its own where they are
+-- to be shown
 pub record IsScene (s : Scene) : Type 0 where
   pub well_formed : IsNet s.net.now
   pub models : AreModels s.net.now s.models.now.items
@@ -46,8 +49,8 @@ all_vars p = pin_vars ++ p.vars.items
 abbrev pub before_of : Playing → List (List ℕ)
 before_of p = pin_digits p.last p.instruction.items ++ told_of p.told.items
 
--- the same of a play; no variable from the place `pins` on is a pin, after the first clock the values of the clock before were written, and the
--- digits are those of the time
+-- the same of a play; no variable from the place `pins` on is a pin, after the first clock the values of the
+-- clock before were written, and the digits are those of the time
 pub record IsPlaying (p : Playing) : Type 0 where
   pub well_formed : IsNet p.net.now
   pub models : AreModels p.net.now p.models.now.items
@@ -60,7 +63,8 @@ pub record IsPlaying (p : Playing) : Type 0 where
   pub few : p.pins ≤ length p.vars.items
   pub pins : (k : ℕ) → p.pins ≤ k → k < length p.vars.items → is_pin (get_or p.vars.items k Tms) ≡ false
   pub shifts : p.shifts ≡ false → list_any is_shift p.vars.items ≡ false
-  pub known : p.first ≡ false → WasTold (chip_of p.bench) (models_of p) (all_vars p) (before_of p) p.last p.bench.state
+  pub known : p.first ≡ false
+      → WasTold (chip_of p.bench) (models_of p) (all_vars p) (before_of p) p.last p.bench.state
   pub digits : p.digits.items ≡ 35 ∷ decimal (counted (2 * p.clock))
 
 -- the digits of the variables at a clock with some pins
@@ -80,7 +84,8 @@ left_text p = text_from p p.first p.clock (before_of p) (take p.left p.player.pi
 -- the same after so many clocks more
 unfoldable pub skipped_text : ℕ → Playing → List ℕ
 skipped_text n p =
-    text_from p p.first p.clock (before_of p) (take p.left (drop n p.player.pins)) (after_pins (chip_of p.bench) (take n p.player.pins) p.bench.state)
+    text_from p p.first p.clock (before_of p) (take p.left (drop n p.player.pins))
+    (after_pins (chip_of p.bench) (take n p.player.pins) p.bench.state)
 
 -- the moment at which a clock begins, and both moments of it
 unfoldable pub falling_text : Playing → Pins → List ℕ
@@ -92,11 +97,13 @@ clock_text p q = falling_text p q ++ moment_text (rising p.clock)
 -- what is left after a clock
 unfoldable pub after_text : Playing → Pins → List ℕ
 after_text p q =
-    text_from p false (next_clock p.clock) (values_at p q) (take p.left p.player.pins) (clock (chip_of p.bench) q.tms q.tdi p.bench.state)
+    text_from p false (next_clock p.clock) (values_at p q) (take p.left p.player.pins)
+    (clock (chip_of p.bench) q.tms q.tdi p.bench.state)
 
 -- what was added, with what is left, is what was left before
 abbrev pub IsFurther : List ℕ → List ℕ → List ℕ → List ℕ → Type 0
-IsFurther before after left_before left_after = (here : List ℕ) × (after ≡ before ++ here) × (left_before ≡ here ++ left_after)
+IsFurther before after left_before left_after = (here : List ℕ)
+    × (after ≡ before ++ here) × (left_before ≡ here ++ left_after)
 
 -- whether a compare differed so far, or one of those that are left does
 unfoldable pub some_differs : Playing → Bool

@@ -1,6 +1,8 @@
--- The moments of a wave at which something changes, and what changes there (IEEE 1364-2005, 18.2.1 to 18.2.3: simulation times and value
--- changes). Clock k is the time 2k, at which TCK falls, and the time 2k + 1, at which it rises.
-use Rattle.std.specs.Prelude.{ℕ, suc, ◌+◌, ◌*◌, ◌-◌, ◌^◌, ◌==◌, ◌||◌, min, not, Bool, false, cond, List, [], ◌∷◌, ◌++◌, codes, decimal, get_or, length}
+-- The moments of a wave at which something changes, and what changes there (IEEE 1364-2005, 18.2.1 to 18.2.3:
+-- simulation times and value changes). Clock k is the time 2k, at which TCK falls, and the time 2k + 1, at
+-- which it rises.
+use Rattle.std.specs.Prelude.{ℕ, suc, ◌+◌, ◌*◌, ◌-◌, ◌^◌, ◌==◌, ◌||◌, min, not, Bool, false, cond, List, []}
+use Rattle.std.specs.Prelude.{◌∷◌, ◌++◌, codes, decimal, get_or, length}
 use Rattle.std.specs.List.{flat_map}
 use Rattle.std.specs.Str.{bytes_eq}
 use Rattle.instruments.specs.declared.Counts.{Counts}
@@ -69,13 +71,14 @@ abbrev pub rising : ℕ → Moment
 rising k = record { time = 2 * k + 1; first = false; changes = rises ∷ [] }
 
 module _ (chip : Chip Counts) (models : List SeenModel) (vars : List Var) where
-  -- the clocks of some pins, of which the next has number k, and the moment after the last of them, at which nothing is shifted. Both
-  -- halves of a clock show the pins of the clock and the state before it
+  -- the clocks of some pins, of which the next has number k, and the moment after the last of them, at which
+  -- nothing is shifted. Both halves of a clock show the pins of the clock and the state before it
   abbrev pub moments_from : Bool → ℕ → List (List ℕ) → List Pins → State Counts → List Moment
   moments_from first k before [] s = falling first k before (values chip models vars (no_shift false) s) ∷ []
   moments_from first k before (p ∷ ps) s =
       let now = values chip models vars p s in
-      falling first k before now ∷ rising k ∷ moments_from false (next_clock k) now ps (clock chip p.tms p.tdi s)
+      falling first k before now ∷ rising k
+      ∷ moments_from false (next_clock k) now ps (clock chip p.tms p.tdi s)
 
 -- ---- text
 
@@ -97,7 +100,8 @@ time_text t = codes "#" ++ (decimal (counted t) ++ codes "\n")
 
 abbrev pub moment_text : Moment → List ℕ
 moment_text m =
-    time_text m.time ++ (cond m.first (codes "$dumpvars\n") [] ++ (flat_map change_text m.changes ++ cond m.first (codes "$end\n") []))
+    time_text m.time ++ (cond m.first (codes "$dumpvars\n") []
+    ++ (flat_map change_text m.changes ++ cond m.first (codes "$end\n") []))
 
 abbrev pub moments_text : List Moment → List ℕ
 moments_text moments = flat_map moment_text moments

@@ -18,6 +18,7 @@ NamedWithout b net models (Declare v) = Without b (var_name net models v)
 NamedWithout b net models Close = Unit {0}
 
 -- all names that are declared, that of the top with them
-pub record NamesWithout (b : ℕ) (kind : WaveKind) (net : Net) (models : List SeenModel) (top : List ℕ) : Type 0 where
+pub record NamesWithout (b : ℕ) (kind : WaveKind) (net : Net)
+    (models : List SeenModel) (top : List ℕ) : Type 0 where
   pub outermost : Without b top
   pub others : All (NamedWithout b net models) (items kind net models)

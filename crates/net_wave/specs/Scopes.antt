@@ -1,5 +1,5 @@
--- The scopes of a wave's variables are the instance paths of what they show, where the nodes of the network are in preorder (IEEE 1687-2014,
--- ICL: Instance; IEEE 1364-2005, 18.2.3: $scope).
+-- The scopes of a wave's variables are the instance paths of what they show, where the nodes of the network
+-- are in preorder (IEEE 1687-2014, ICL: Instance; IEEE 1364-2005, 18.2.3: $scope).
 use Rattle.std.specs.Prelude.{◌≡◌, ◌<◌, ◌≤◌, ℕ, suc, codes, List, [], ◌∷◌, ◌++◌, get_or, length, map, take}
 use Rattle.instruments.specs.Seen.{SeenModel}
 use Rattle.net_graph.specs.declared.net.Net.{Net}

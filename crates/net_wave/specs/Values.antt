@@ -1,6 +1,8 @@
--- What the variables of a wave are at one clock: digits, the highest first (IEEE 1364-2005, 18.2.1; IEEE 1149.1-2013, clause 6: the codes
--- of the controller's states; IEEE 1687-2014: active scan path, ScanMux, data ports).
-use Rattle.std.specs.Prelude.{ℕ, zero, suc, ◌/◌, ◌%◌, ◌^◌, ◌==◌, not, Bool, false, cond, List, [], ◌∷◌, get_or, length, map, Option, Some, None}
+-- What the variables of a wave are at one clock: digits, the highest first (IEEE 1364-2005, 18.2.1; IEEE
+-- 1149.1-2013, clause 6: the codes of the controller's states; IEEE 1687-2014: active scan path, ScanMux,
+-- data ports).
+use Rattle.std.specs.Prelude.{ℕ, zero, suc, ◌/◌, ◌%◌, ◌^◌, ◌==◌, not, Bool, false, cond, List, [], ◌∷◌}
+use Rattle.std.specs.Prelude.{get_or, length, map, Option, Some, None}
 use Rattle.ij_bits.specs.BitLists.{bit, same_bit}
 use Rattle.instruments.specs.declared.Counts.{Counts}
 use Rattle.instruments.specs.OnNetwork.{inner_at, outputs}
@@ -15,9 +17,14 @@ use Rattle.net_graph.specs.Signals.{bits_at, signal}
 use Rattle.report.specs.Registers.{digit}
 use Rattle.tap_machine.specs.declared.Pins.{Pins}
 use Rattle.tap_machine.specs.declared.TapState.{TapState}
-use Rattle.tap_machine.specs.declared.TapState.TheVariants.{TestLogicReset, RunTestIdle, SelectDrScan, CaptureDr, ShiftDr, Exit1Dr, PauseDr, Exit2Dr, UpdateDr, SelectIrScan, CaptureIr, ShiftIr, Exit1Ir, PauseIr, Exit2Ir, UpdateIr}
+use Rattle.tap_machine.specs.declared.TapState.TheVariants.{TestLogicReset, RunTestIdle, SelectDrScan}
+use Rattle.tap_machine.specs.declared.TapState.TheVariants.{CaptureDr, ShiftDr, Exit1Dr, PauseDr, Exit2Dr}
+use Rattle.tap_machine.specs.declared.TapState.TheVariants.{UpdateDr, SelectIrScan, CaptureIr, ShiftIr}
+use Rattle.tap_machine.specs.declared.TapState.TheVariants.{Exit1Ir, PauseIr, Exit2Ir, UpdateIr}
 use Rattle.net_wave.specs.declared.var.Var.{Var}
-use Rattle.net_wave.specs.declared.var.Var.TheVariants.{Tms, Tdi, Tdo, Expect, Differs, Tap, Instruction, Scan, Bit, Update, Shift, OnPath, Row, Input, Output, Word}
+use Rattle.net_wave.specs.declared.var.Var.TheVariants.{Tms, Tdi, Tdo, Expect, Differs, Tap, Instruction}
+use Rattle.net_wave.specs.declared.var.Var.TheVariants.{Scan, Bit, Update, Shift, OnPath, Row, Input, Output}
+use Rattle.net_wave.specs.declared.var.Var.TheVariants.{Word}
 use Rattle.net_wave.specs.Vars.{up_to, words_of}
 
 -- ---- digits
@@ -87,7 +94,8 @@ row_digits width (Some q) = number_digits width q
 
 -- what drives an input of an instrument, position 0 first
 abbrev pub drivers : Net → ℕ → ℕ → List Sig
-drivers net i p = get_or (get_or (map (λ inst. map (λ port. port.bits.items) inst.ins.items) net.insts.items) i []) p []
+drivers net i p =
+    get_or (get_or (map (λ inst. map (λ port. port.bits.items) inst.ins.items) net.insts.items) i []) p []
 
 -- what stands at a position of an input
 abbrev pub input_bit : Chip Counts → State Counts → ℕ → ℕ → ℕ → Bool

@@ -1,6 +1,7 @@
--- The variables of a wave, and the scopes in which they stand (IEEE 1364-2005, 18.2.3: scopes and variables; IEEE 1687-2014, ICL:
--- Instance, ScanRegister, ScanMux, data ports).
-use Rattle.std.specs.Prelude.{◌<◌, ℕ, zero, suc, ◌-◌, ◌==◌, Bool, true, false, cond, List, [], ◌∷◌, ◌++◌, get_or, length, map}
+-- The variables of a wave, and the scopes in which they stand (IEEE 1364-2005, 18.2.3: scopes and variables;
+-- IEEE 1687-2014, ICL: Instance, ScanRegister, ScanMux, data ports).
+use Rattle.std.specs.Prelude.{◌<◌, ℕ, zero, suc, ◌-◌, ◌==◌, Bool, true, false, cond, List, [], ◌∷◌, ◌++◌}
+use Rattle.std.specs.Prelude.{get_or, length, map}
 use Rattle.instruments.specs.Seen.{SeenModel, SeenWord}
 use Rattle.net_graph.specs.declared.net.Net.{Net}
 use Rattle.net_graph.specs.Named.{thing_of}
@@ -9,7 +10,9 @@ use Rattle.net_wave.specs.declared.var.Item.TheVariants.{Open, Declare, Close}
 use Rattle.net_wave.specs.declared.var.Scope.{Scope}
 use Rattle.net_wave.specs.declared.var.Scope.TheVariants.{Node, Register, Multiplexer, Words}
 use Rattle.net_wave.specs.declared.var.Var.{Var}
-use Rattle.net_wave.specs.declared.var.Var.TheVariants.{Tms, Tdi, Tdo, Expect, Differs, Tap, Instruction, Scan, Bit, Update, Shift, OnPath, Row, Input, Output, Word}
+use Rattle.net_wave.specs.declared.var.Var.TheVariants.{Tms, Tdi, Tdo, Expect, Differs, Tap, Instruction}
+use Rattle.net_wave.specs.declared.var.Var.TheVariants.{Scan, Bit, Update, Shift, OnPath, Row, Input, Output}
+use Rattle.net_wave.specs.declared.var.Var.TheVariants.{Word}
 use Rattle.net_wave.specs.declared.var.WaveKind.{WaveKind}
 use Rattle.net_wave.specs.declared.var.WaveKind.TheVariants.{Pins, State, All}
 
@@ -61,11 +64,13 @@ word_count models i = length (words_of models i)
 
 abbrev pub pin_items : List Item
 pin_items =
-    Declare Tms ∷ Declare Tdi ∷ Declare Tdo ∷ Declare Expect ∷ Declare Differs ∷ Declare Tap ∷ Declare Instruction ∷ Declare Scan ∷ Declare Bit ∷ []
+    Declare Tms ∷ Declare Tdi ∷ Declare Tdo ∷ Declare Expect ∷ Declare Differs ∷ Declare Tap
+    ∷ Declare Instruction ∷ Declare Scan ∷ Declare Bit ∷ []
 
 abbrev pub register_items : WaveKind → ℕ → List Item
 register_items kind r =
-    Open (Register r) ∷ Declare (Update r) ∷ (cond (has_shift kind) (Declare (Shift r) ∷ []) [] ++ Declare (OnPath r) ∷ Close ∷ [])
+    Open (Register r) ∷ Declare (Update r)
+    ∷ (cond (has_shift kind) (Declare (Shift r) ∷ []) [] ++ Declare (OnPath r) ∷ Close ∷ [])
 
 abbrev pub mux_items : ℕ → List Item
 mux_items m = Open (Multiplexer m) ∷ Declare (Row m) ∷ Close ∷ []
@@ -83,7 +88,8 @@ word_item i w = Declare (Word i w) ∷ []
 abbrev pub inst_items : Net → List SeenModel → ℕ → List Item
 inst_items net models i =
     up_to (input_item i) (input_count net i)
-    ++ (up_to (output_item i) (output_count net i) ++ (Open Words ∷ (up_to (word_item i) (word_count models i) ++ Close ∷ [])))
+    ++ (up_to (output_item i) (output_count net i)
+    ++ (Open Words ∷ (up_to (word_item i) (word_count models i) ++ Close ∷ [])))
 
 -- an instrument, a register or a multiplexer, if it stands in this node
 abbrev pub inst_item : Net → List SeenModel → ℕ → ℕ → List Item
@@ -123,7 +129,8 @@ node_items kind net models k =
 -- pins alone, or all nodes
 abbrev pub items : WaveKind → Net → List SeenModel → List Item
 items kind net models =
-    pin_items ++ cond (has_state kind) (up_to (node_items kind net models) (length net.nodes.items)) (Close ∷ [])
+    pin_items ++ cond (has_state kind)
+    (up_to (node_items kind net models) (length net.nodes.items)) (Close ∷ [])
 
 -- ---- variables
 

@@ -24,16 +24,19 @@ use Rattle.net_wave.specs.Vars.{items, vars}
 -- the moments of the clocks in a window of some pins, from power-up
 unfoldable pub moments_of : Chip Counts → List SeenModel → List Var → List Pins → Window → List Moment
 moments_of c models seen played window =
-    moments_from c models seen true window.from (untold (length seen)) (take window.count (drop window.from played)) (after_pins c (take window.from played) (power_up c))
+    moments_from c models seen true window.from (untold (length seen))
+    (take window.count (drop window.from played)) (after_pins c (take window.from played) (power_up c))
 
 -- those of a play of commands
 abbrev pub moments : WaveKind → Net → Device → List SeenModel → List SeenCommand → Window → List Moment
 moments kind net device models commands window =
     moments_of (chip net device models) models (vars kind net models) (pins InReset 0 commands) window
 
-unfoldable pub wave_text : WaveKind → Net → Device → List SeenModel → List ℕ → List SeenCommand → Window → List ℕ
+unfoldable pub wave_text : WaveKind → Net → Device → List SeenModel
+    → List ℕ → List SeenCommand → Window → List ℕ
 wave_text kind net device models top commands window =
-    header net device models top (items kind net models) ++ moments_text (moments kind net device models commands window)
+    header net device models top (items kind net models)
+    ++ moments_text (moments kind net device models commands window)
 
 -- a file holds some first bytes of these old ones with the text after them
 abbrev pub HoldsSome : Option Files → List ℕ → Option (List ℕ) → List ℕ → Type 0

@@ -4,7 +4,9 @@ use Rattle.net_graph.specs.declared.net.Net.{Net}
 use Rattle.net_graph.specs.Nets.{IsNet}
 use Rattle.instruments.specs.Seen.{SeenModel}
 use Rattle.net_wave.specs.declared.var.Var.{Var}
-use Rattle.net_wave.specs.declared.var.Var.TheVariants.{Tms, Tdi, Tdo, Expect, Differs, Tap, Instruction, Scan, Bit, Update, Shift, OnPath, Row, Input, Output, Word}
+use Rattle.net_wave.specs.declared.var.Var.TheVariants.{Tms, Tdi, Tdo, Expect, Differs, Tap, Instruction}
+use Rattle.net_wave.specs.declared.var.Var.TheVariants.{Scan, Bit, Update, Shift, OnPath, Row, Input, Output}
+use Rattle.net_wave.specs.declared.var.Var.TheVariants.{Word}
 use Rattle.net_wave.specs.declared.var.WaveKind.{WaveKind}
 use Rattle.net_wave.specs.Vars.{IsVar, has_shift, has_state, vars}
 
@@ -47,6 +49,7 @@ is_asked kind _ = true
 -- Each variable that is asked and names something that is there is among the variables once, and no other is.
 abbrev pub VarsAreWhole : Type 0
 VarsAreWhole =
-    (kind : WaveKind) (net : Net) (models : List SeenModel) (v : Var) → IsNet net → length models ≡ length net.insts.items
+    (kind : WaveKind) (net : Net) (models : List SeenModel) (v : Var) → IsNet net
+    → length models ≡ length net.insts.items
     → (is_asked kind v ≡ true → IsVar net models v → times v (vars kind net models) ≡ 1)
     × (1 ≤ times v (vars kind net models) → (is_asked kind v ≡ true) × IsVar net models v)

@@ -1,4 +1,5 @@
--- The declarations of a wave give each variable the number of digits that its value has at each clock of each play from power-up.
+-- The declarations of a wave give each variable the number of digits that its value has at each clock of each
+-- play from power-up.
 use Rattle.std.specs.Prelude.{◌≡◌, List, length}
 use Rattle.bench_report.specs.Report.{chip}
 use Rattle.instruments.specs.Seen.{SeenModel}
@@ -14,6 +15,7 @@ use Rattle.net_wave.specs.Values.{value}
 
 abbrev pub WidthsAgree : Type 0
 WidthsAgree =
-    (net : Net) (device : Device) (models : List SeenModel) (v : Var) (played : List Pins) (p : Pins) → IsNet net
+    (net : Net) (device : Device) (models : List SeenModel) (v : Var) (played : List Pins) (p : Pins)
+    → IsNet net
     → let it = chip net device models in
     length (value it models v p (after_pins it played (power_up it))) ≡ (shape net device models v).width

@@ -70,7 +70,8 @@ fn add_var(
     requires well_formed { IsNet net.now }
     requires models { All (λ m. IsModel (seen_model m)) models.now.items }
     requires there { vars.IsVar net.now (map seen_model models.now.items) var }
-    ensures { OnOk result (piece.new ≡ piece.old ++ header.var_text net.now device.now (map seen_model models.now.items) number var) }
+    ensures { OnOk result (piece.new
+        ≡ piece.old ++ header.var_text net.now device.now (map seen_model models.now.items) number var) }
 {
     let it = var_shape(net, device, models, var);
     add_front(is_pin(var), it.width, piece)?;
@@ -106,7 +107,8 @@ fn add_item(
     requires well_formed { IsNet net.now }
     requires models { All (λ m. IsModel (seen_model m)) models.now.items }
     requires there { vars.IsItem net.now (map seen_model models.now.items) item }
-    ensures { OnOk result (piece.new ≡ piece.old ++ header.item_text net.now device.now (map seen_model models.now.items) number item) }
+    ensures { OnOk result (piece.new
+        ≡ piece.old ++ header.item_text net.now device.now (map seen_model models.now.items) number item) }
 {
     match item {
         Item::Open(scope) => add_scope(net, scope, piece),
@@ -138,7 +140,8 @@ fn add_items(
     requires well_formed { IsNet net.now }
     requires models { All (λ m. IsModel (seen_model m)) models.now.items }
     requires there { All (vars.IsItem net.now (map seen_model models.now.items)) items.now }
-    ensures { OnOk result (piece.new ≡ piece.old ++ header.items_text net.now device.now (map seen_model models.now.items) 1 items.now) }
+    ensures { OnOk result (piece.new
+        ≡ piece.old ++ header.items_text net.now device.now (map seen_model models.now.items) 1 items.now) }
 {
     let mut number = 1;
     for item in items {
@@ -180,7 +183,8 @@ pub(crate) fn add_header(
     requires well_formed { IsNet net.now }
     requires models { All (λ m. IsModel (seen_model m)) models.now.items }
     requires there { All (vars.IsItem net.now (map seen_model models.now.items)) items.now }
-    ensures { OnOk result (piece.new ≡ piece.old ++ header.header net.now device.now (map seen_model models.now.items) top.now items.now) }
+    ensures { OnOk result (piece.new
+        ≡ piece.old ++ header.header net.now device.now (map seen_model models.now.items) top.now items.now) }
 {
     add_start(top, piece)?;
     add_items(net, device, models, items, piece)?;

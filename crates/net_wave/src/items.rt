@@ -219,7 +219,8 @@ fn add_inst(
     requires well_formed { IsNet net.now }
     requires models { AreModels net.now models.now.items }
     requires there { inst < length net.now.insts.items }
-    ensures { OnOk result (items.new.items ≡ items.old.items ++ vars.inst_items net.now (map seen_model models.now.items) inst) }
+    ensures { OnOk result (items.new.items
+        ≡ items.old.items ++ vars.inst_items net.now (map seen_model models.now.items) inst) }
 {
     let it = inst_at(net, inst);
     add_inputs(inst, it.ins.len() as u32, items)?;
@@ -241,7 +242,8 @@ fn add_inst_in(
     requires well_formed { IsNet net.now }
     requires models { AreModels net.now models.now.items }
     requires there { inst < length net.now.insts.items }
-    ensures { OnOk result (items.new.items ≡ items.old.items ++ vars.inst_item net.now (map seen_model models.now.items) node inst) }
+    ensures { OnOk result (items.new.items
+        ≡ items.old.items ++ vars.inst_item net.now (map seen_model models.now.items) node inst) }
 {
     if inst_at(net, inst).node == node {
         add_inst(net, models, inst, items)
@@ -268,7 +270,8 @@ fn add_insts(
 ) -> Result<(), OutOfMemory>
     requires well_formed { IsNet net.now }
     requires models { AreModels net.now models.now.items }
-    ensures { OnOk result (items.new.items ≡ items.old.items ++ vars.insts_in net.now (map seen_model models.now.items) node) }
+    ensures { OnOk result (items.new.items
+        ≡ items.old.items ++ vars.insts_in net.now (map seen_model models.now.items) node) }
 {
     for inst in 0..inst_count(net) {
         add_inst_in(net, models, node, inst, items)?;
@@ -331,7 +334,8 @@ fn add_node(
     requires well_formed { IsNet net.now }
     requires models { AreModels net.now models.now.items }
     requires there { node < length net.now.nodes.items }
-    ensures { OnOk result (items.new.items ≡ items.old.items ++ vars.node_items kind net.now (map seen_model models.now.items) node) }
+    ensures { OnOk result (items.new.items
+        ≡ items.old.items ++ vars.node_items kind net.now (map seen_model models.now.items) node) }
 {
     add_opening(node, items)?;
     add_insts(net, models, node, items)?;
@@ -359,7 +363,8 @@ fn add_nodes(
 ) -> Result<(), OutOfMemory>
     requires well_formed { IsNet net.now }
     requires models { AreModels net.now models.now.items }
-    ensures { OnOk result (items.new.items ≡ items.old.items ++ vars.up_to (vars.node_items kind net.now (map seen_model models.now.items)) (length net.now.nodes.items)) }
+    ensures { OnOk result (items.new.items ≡ items.old.items ++ vars.up_to
+        (vars.node_items kind net.now (map seen_model models.now.items)) (length net.now.nodes.items)) }
 {
     for node in 0..node_count(net) {
         add_node(kind, net, models, node, items)?;

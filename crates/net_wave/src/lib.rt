@@ -1,5 +1,5 @@
-//! The waves of a play: what happens at the pins, in the TAP controller and on the chip, clock by clock (IEEE 1364-2005, 18.2:
-//! VCD files).
+//! The waves of a play: what happens at the pins, in the TAP controller and on the chip, clock by clock (IEEE
+//! 1364-2005, 18.2: VCD files).
 #![tactic(auto)]
 
 mod codes;

@@ -69,7 +69,8 @@ pub(crate) fn add_var_name(
 ) -> Result<(), OutOfMemory>
     requires models { All (λ m. IsModel (seen_model m)) models.now.items }
     requires there { vars.IsVar net.now (map seen_model models.now.items) var }
-    ensures { OnOk result (piece.new ≡ piece.old ++ header.var_name net.now (map seen_model models.now.items) var) }
+    ensures { OnOk result
+        (piece.new ≡ piece.old ++ header.var_name net.now (map seen_model models.now.items) var) }
 {
     match var {
         Var::Tms => add(b"TMS", piece),

@@ -12,8 +12,8 @@ use ij_bits::OutOfMemory;
 use ij_io::SureSink;
 use tap_machine::TapState;
 
-/// Puts the digit of a variable of one bit at a place of a line, if it is written first or has changed; answers the place
-/// after it.
+/// Puts the digit of a variable of one bit at a place of a line, if it is written first or has changed;
+/// answers the place after it.
 fn put_digit(
     variable: u8,
     first: bool,
@@ -25,7 +25,8 @@ fn put_digit(
     requires variable { variable < 94 }
     requires room { at ≤ 20 }
     ensures next { result ≤ at + 3 }
-    ensures text { take result line.new ≡ take at line.old ++ told_if first variable (before ∷ []) (now ∷ []) }
+    ensures text { take result line.new
+        ≡ take at line.old ++ told_if first variable (before ∷ []) (now ∷ []) }
 {
     line[at] = now;
     line[at + 1] = 33 + variable;
@@ -35,7 +36,8 @@ fn put_digit(
 
 /// The line of a state of the TAP controller.
 fn tap_line(tap: TapState) -> &'static [u8]
-    ensures { result.now ≡ moments.change_text (record { number = 6; digits = values.number_digits 4 (values.tap_code tap) }) }
+    ensures { result.now
+        ≡ moments.change_text (record { number = 6; digits = values.number_digits 4 (values.tap_code tap) }) }
 {
     match tap {
         TapState::TestLogicReset => b"b1111 '\n",
@@ -64,7 +66,8 @@ fn add_tap(
     now: TapState,
     piece: &mut SureSink,
 ) -> Result<(), OutOfMemory>
-    ensures { OnOk result (piece.new ≡ piece.old ++ told_if first 6 (values.number_digits 4 (values.tap_code before)) (values.number_digits 4 (values.tap_code now))) }
+    ensures { OnOk result (piece.new ≡ piece.old ++ told_if first 6
+        (values.number_digits 4 (values.tap_code before)) (values.number_digits 4 (values.tap_code now))) }
 {
     if first || tap_code(before) != tap_code(now) {
         return add(tap_line(now), piece);
@@ -72,7 +75,8 @@ fn add_tap(
     Ok(())
 }
 
-/// Puts the binary digits of a number, without zeros at the left, before place 33 of a line; answers where they begin.
+/// Puts the binary digits of a number, without zeros at the left, before place 33 of a line; answers where
+/// they begin.
 fn put_binary(number: u32, line: &mut [u8; 36]) -> usize
     ensures low { 1 ≤ result }
     ensures high { result ≤ 32 }
@@ -92,7 +96,8 @@ fn put_binary(number: u32, line: &mut [u8; 36]) -> usize
 /// Adds a number in binary digits, under the number of its variable.
 fn add_binary(variable: u8, number: u32, piece: &mut SureSink) -> Result<(), OutOfMemory>
     requires { variable < 94 }
-    ensures { OnOk result (piece.new ≡ piece.old ++ codes "b" ++ (binary number ++ (codes " " ++ (33 + variable) ∷ codes "\n"))) }
+    ensures { OnOk result (piece.new
+        ≡ piece.old ++ codes "b" ++ (binary number ++ (codes " " ++ (33 + variable) ∷ codes "\n"))) }
 {
     let mut line = [0u8; 36];
     line[33] = b' ';
@@ -110,7 +115,8 @@ fn add_scan_number(
     now: u32,
     piece: &mut SureSink,
 ) -> Result<(), OutOfMemory>
-    ensures { OnOk result (piece.new ≡ piece.old ++ told_if first 8 (values.number_digits 32 before) (values.number_digits 32 now)) }
+    ensures { OnOk result (piece.new
+        ≡ piece.old ++ told_if first 8 (values.number_digits 32 before) (values.number_digits 32 now)) }
 {
     if first || before != now {
         return add_binary(8, now, piece);
@@ -120,7 +126,8 @@ fn add_scan_number(
 
 /// Adds the position, of which 16 bits are shown, if it is written first or has changed.
 fn add_position(first: bool, before: u32, now: u32, piece: &mut SureSink) -> Result<(), OutOfMemory>
-    ensures { OnOk result (piece.new ≡ piece.old ++ told_if first 9 (values.number_digits 16 before) (values.number_digits 16 now)) }
+    ensures { OnOk result (piece.new
+        ≡ piece.old ++ told_if first 9 (values.number_digits 16 before) (values.number_digits 16 now)) }
 {
     if first || before % 65536 != now % 65536 {
         return add_binary(9, now % 65536, piece);

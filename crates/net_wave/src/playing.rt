@@ -1,5 +1,6 @@
 // A play that is under way, and the moments that are still to come.
-ghost use Rattle.std.specs.Prelude.{◌≡◌, ◌≤◌, ◌<◌, ◌++◌, ◌∷◌, ◌||◌, [], cond, false, length, map, take, true, All, IfOk, IfSome, IsNone, IsSome, OnOk};
+ghost use Rattle.std.specs.Prelude.{◌≡◌, ◌≤◌, ◌<◌, ◌++◌, ◌∷◌, ◌||◌, [], cond, false, length, map, take, true};
+ghost use Rattle.std.specs.Prelude.{All, IfOk, IfSome, IsNone, IsSome, OnOk};
 ghost use Rattle.bench_report.specs.Report.{chip, chip_of, differs_of};
 ghost use Rattle.instruments.specs.Runners.{AreModels};
 ghost use Rattle.instruments.specs.Seen.{seen_model};
@@ -49,11 +50,11 @@ const NOTHING: Shown = Shown {
     tap: TapState::TestLogicReset,
 };
 
-/// A play on the bench of a network: its shift stages, the variables after the nine pins with the digits that were written
-/// last, those of the instruction, whether none was written yet, the number of the next clock with the digits of its time, how
-/// many clocks are still to be written, and whether a compare differed so far. `last` is what the clock before showed at the
-/// pins, `pins` a place among the variables from which on there is no pin, `shifts` whether there are shift stages, which are
-/// kept only then.
+/// A play on the bench of a network: its shift stages, the variables after the nine pins with the digits that
+/// were written last, those of the instruction, whether none was written yet, the number of the next clock
+/// with the digits of its time, how many clocks are still to be written, and whether a compare differed so
+/// far. `last` is what the clock before showed at the pins, `pins` a place among the variables from which on
+/// there is no pin, `shifts` whether there are shift stages, which are kept only then.
 #[derive(Drop)]
 pub(crate) struct Playing<'a> {
     pub net: &'a Net,
@@ -89,19 +90,22 @@ fn nothing_told(alloc: Global, count: usize) -> Result<Vec<List<u8>>, OutOfMemor
 /// Gives the shift stages beside a bench what those of its active path hold, if they changed.
 fn copy_if(changed: bool, bench: &Bench, stages: &mut Holds)
     requires { AreHolds bench.now.net stages.old }
-    ensures { stages.new ≡ cond changed (put_chain (route_of bench.now.net bench.now.state.holds) (bits_on (route_of bench.now.net bench.now.state.holds) bench.now.state.stages) stages.old) stages.old }
+    ensures { stages.new ≡ cond changed (put_chain (route_of bench.now.net bench.now.state.holds) (bits_on
+        (route_of bench.now.net bench.now.state.holds) bench.now.state.stages) stages.old) stages.old }
 {
     if changed {
         bench.copy_path_stages(stages);
     }
 }
 
-/// One clock of a bench, and of the shift stages beside it if they are to be kept; answers whether its compare differs.
+/// One clock of a bench, and of the shift stages beside it if they are to be kept; answers whether its
+/// compare differs.
 fn step(bench: &mut Bench, stages: &mut Holds, kept: bool, pins: Pins) -> bool
     requires well_formed { IsNet bench.old.net }
     requires shape { AreHolds bench.old.net stages.old }
     requires stages { kept ≡ true → stages.old ≡ bench.old.state.stages }
-    ensures bench { bench.new ≡ record bench.old { state = clock (chip_of bench.old) pins.tms pins.tdi bench.old.state } }
+    ensures bench { bench.new
+        ≡ record bench.old { state = clock (chip_of bench.old) pins.tms pins.tdi bench.old.state } }
     ensures shape { AreHolds bench.old.net stages.new }
     ensures stages { kept ≡ true → stages.new ≡ bench.new.state.stages }
     ensures differs { result ≡ values.differs pins.expect (tdo (chip_of bench.old) bench.old.state) }
@@ -136,8 +140,11 @@ impl<'a> Playing<'a> {
         requires there { All (IsVar net.now (map seen_model models.now.items)) vars.items }
         ensures playing { IfOk result (λ playing. IsPlaying playing) }
         ensures first { IfOk result (λ playing. playing.first ≡ true) }
-        ensures differs { IfOk result (λ playing. left.some_differs playing ≡ is_any (differs_of net.now device.now (map seen_model models.now.items) commands.now)) }
-        ensures text { IfOk result (λ playing. left.skipped_text window.from playing ≡ moments_text (moments_of (chip net.now device.now (map seen_model models.now.items)) (map seen_model models.now.items) (pin_vars ++ vars.items) (pins InReset 0 commands.now) window)) }
+        ensures differs { IfOk result (λ playing. left.some_differs playing
+            ≡ is_any (differs_of net.now device.now (map seen_model models.now.items) commands.now)) }
+        ensures text { IfOk result (λ playing. left.skipped_text window.from playing
+            ≡ moments_text (moments_of (chip net.now device.now (map seen_model models.now.items)) (map
+            seen_model models.now.items) (pin_vars ++ vars.items) (pins InReset 0 commands.now) window)) }
     {
         let bench = Bench::new(alloc, net, device, models)?;
         let player = Player::new(Stable::Reset, 0, commands);
@@ -188,7 +195,8 @@ impl<'a> Playing<'a> {
     fn next_pins(&mut self) -> Option<Pins>
         ensures same { self.new ≡ record self.old { player = self.new.player; left = self.new.left } }
         ensures none { IsNone result → take self.old.left self.old.player.pins ≡ [] }
-        ensures some { IfSome result (λ p. take self.old.left self.old.player.pins ≡ p ∷ take self.new.left self.new.player.pins) }
+        ensures some { IfSome result
+            (λ p. take self.old.left self.old.player.pins ≡ p ∷ take self.new.left self.new.player.pins) }
         ensures fewer { IsSome result → self.new.left < self.old.left }
         ensures kept { IsNone result → self.new.player.pins ≡ self.old.player.pins }
         ensures given { IfSome result (λ p. self.old.player.pins ≡ p ∷ self.new.player.pins) }
@@ -200,7 +208,8 @@ impl<'a> Playing<'a> {
         self.player.next()
     }
 
-    /// How many variables are to be looked at, from the first on, at a clock that shows something at the pins.
+    /// How many variables are to be looked at, from the first on, at a clock that shows something at the
+    /// pins.
     fn place(&self, now: &Shown) -> usize
         requires { IsPlaying self.now }
         ensures few { result ≤ length self.now.vars.items }
@@ -222,7 +231,12 @@ impl<'a> Playing<'a> {
     /// Adds the moment at which a clock begins.
     fn add_falling(&mut self, pins: Pins, piece: &mut SureSink) -> Result<(), OutOfMemory>
         requires { IsPlaying self.old }
-        ensures same { self.new ≡ record self.old { told = self.new.told; instruction = self.new.instruction; scratch = self.new.scratch; last = self.new.last } }
+        ensures same { self.new ≡ record self.old {
+          told = self.new.told;
+          instruction = self.new.instruction;
+          scratch = self.new.scratch;
+          last = self.new.last;
+        } }
         ensures last { self.new.last ≡ shown_at (chip_of self.old.bench) pins self.old.bench.state }
         ensures told { OnOk result (left.before_of self.new ≡ left.values_at self.old pins) }
         ensures text { OnOk result (piece.new ≡ piece.old ++ left.falling_text self.old pins) }
@@ -282,7 +296,8 @@ impl<'a> Playing<'a> {
     pub(crate) fn add_next(&mut self, piece: &mut SureSink) -> Result<bool, OutOfMemory>
         requires { IsPlaying self.old }
         ensures playing { IfOk result (λ more. more ≡ true → IsPlaying self.new) }
-        ensures text { IfOk result (λ more. more ≡ true → left.IsFurther piece.old piece.new (left.left_text self.old) (left.left_text self.new)) }
+        ensures text { IfOk result (λ more. more ≡ true
+            → left.IsFurther piece.old piece.new (left.left_text self.old) (left.left_text self.new)) }
         ensures fewer { IfOk result (λ more. more ≡ true → self.new.left < self.old.left) }
         ensures end { IfOk result (λ more. more ≡ false → piece.new ≡ piece.old ++ left.left_text self.old) }
         ensures differs { OnOk result (left.some_differs self.new ≡ left.some_differs self.old) }
@@ -300,7 +315,8 @@ impl<'a> Playing<'a> {
         }
     }
 
-    /// Plays the clocks that are left, of which nothing is written; answers whether a compare of the whole play differs.
+    /// Plays the clocks that are left, of which nothing is written; answers whether a compare of the whole
+    /// play differs.
     pub(crate) fn finish(&mut self) -> bool
         requires { left.CanStep self.old }
         ensures { result ≡ left.some_differs self.old }

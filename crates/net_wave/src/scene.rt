@@ -70,8 +70,11 @@ impl<'s, 'a> Scene<'s, 'a> {
     /// Adds the digits of an input of an instrument.
     fn add_input(&self, inst: u32, port: u32, into: &mut List<u8>) -> Result<(), OutOfMemory>
         requires scene { IsScene self.now }
-        requires there { vars.IsVar self.now.net.now (map seen_model self.now.models.now.items) (Var.Input inst port) }
-        ensures { OnOk result (into.new.items ≡ into.old.items ++ values.value (chip_of self.now.bench.now) (map seen_model self.now.models.now.items) (Var.Input inst port) self.now.pins self.now.bench.now.state) }
+        requires there { vars.IsVar self.now.net.now
+            (map seen_model self.now.models.now.items) (Var.Input inst port) }
+        ensures { OnOk result (into.new.items ≡ into.old.items
+            ++ values.value (chip_of self.now.bench.now) (map seen_model self.now.models.now.items)
+            (Var.Input inst port) self.now.pins self.now.bench.now.state) }
     {
         let _holds = self.bench.holds();
         let bits = input_at(self.net, inst, port).bits.as_slice();
@@ -83,7 +86,8 @@ impl<'s, 'a> Scene<'s, 'a> {
 
     /// An output bit of an instrument.
     fn output(&self, inst: u32, port: u32, pos: u32) -> bool
-        ensures { result ≡ outputs (chip_of self.now.bench.now).machines self.now.bench.now.state.insts inst port pos }
+        ensures { result
+            ≡ outputs (chip_of self.now.bench.now).machines self.now.bench.now.state.insts inst port pos }
     {
         self.bench.signal(Sig::Out {
             inst,
@@ -96,8 +100,11 @@ impl<'s, 'a> Scene<'s, 'a> {
     /// Adds the digits of an output of an instrument.
     fn add_output(&self, inst: u32, port: u32, into: &mut List<u8>) -> Result<(), OutOfMemory>
         requires scene { IsScene self.now }
-        requires there { vars.IsVar self.now.net.now (map seen_model self.now.models.now.items) (Var.Output inst port) }
-        ensures { OnOk result (into.new.items ≡ into.old.items ++ values.value (chip_of self.now.bench.now) (map seen_model self.now.models.now.items) (Var.Output inst port) self.now.pins self.now.bench.now.state) }
+        requires there { vars.IsVar self.now.net.now
+            (map seen_model self.now.models.now.items) (Var.Output inst port) }
+        ensures { OnOk result (into.new.items ≡ into.old.items
+            ++ values.value (chip_of self.now.bench.now) (map seen_model self.now.models.now.items)
+            (Var.Output inst port) self.now.pins self.now.bench.now.state) }
     {
         let width = output_at(self.net, inst, port).width;
         for j in 0..width {
@@ -109,8 +116,11 @@ impl<'s, 'a> Scene<'s, 'a> {
     /// Adds the digits of a word of an instrument.
     fn add_word(&self, inst: u32, word: u32, into: &mut List<u8>) -> Result<(), OutOfMemory>
         requires scene { IsScene self.now }
-        requires there { vars.IsVar self.now.net.now (map seen_model self.now.models.now.items) (Var.Word inst word) }
-        ensures { OnOk result (into.new.items ≡ into.old.items ++ values.value (chip_of self.now.bench.now) (map seen_model self.now.models.now.items) (Var.Word inst word) self.now.pins self.now.bench.now.state) }
+        requires there { vars.IsVar self.now.net.now
+            (map seen_model self.now.models.now.items) (Var.Word inst word) }
+        ensures { OnOk result (into.new.items ≡ into.old.items
+            ++ values.value (chip_of self.now.bench.now) (map seen_model self.now.models.now.items)
+            (Var.Word inst word) self.now.pins self.now.bench.now.state) }
     {
         let _count = self.bench.instruments();
         let width = word_at(self.models, inst, word).width;
@@ -121,7 +131,8 @@ impl<'s, 'a> Scene<'s, 'a> {
     fn add_mux_row(&self, mux: u32, into: &mut List<u8>) -> Result<(), OutOfMemory>
         requires scene { IsScene self.now }
         requires there { mux < length self.now.net.now.muxes.items }
-        ensures { OnOk result (into.new.items ≡ into.old.items ++ values.value (chip_of self.now.bench.now) (map seen_model self.now.models.now.items) (Var.Row mux) self.now.pins self.now.bench.now.state) }
+        ensures { OnOk result (into.new.items ≡ into.old.items ++ values.value (chip_of self.now.bench.now)
+            (map seen_model self.now.models.now.items) (Var.Row mux) self.now.pins self.now.bench.now.state) }
     {
         let row = row_of(self.net, self.bench.holds(), mux);
         add_row(row_width(self.net, mux), row, into)
@@ -132,7 +143,8 @@ impl<'s, 'a> Scene<'s, 'a> {
         requires scene { IsScene self.now }
         requires there { vars.IsVar self.now.net.now (map seen_model self.now.models.now.items) var }
         requires kept { self.now.shifts ≡ false → is_shift var ≡ false }
-        ensures { OnOk result (into.new.items ≡ into.old.items ++ values.value (chip_of self.now.bench.now) (map seen_model self.now.models.now.items) var self.now.pins self.now.bench.now.state) }
+        ensures { OnOk result (into.new.items ≡ into.old.items ++ values.value (chip_of self.now.bench.now)
+            (map seen_model self.now.models.now.items) var self.now.pins self.now.bench.now.state) }
     {
         match var {
             Var::Tms => add_digit(self.pins.tms, into),

@@ -8,7 +8,8 @@ use crate::digits::{differs, expect_digit, tap_code};
 use crate::var::{Var, is_pin};
 use tap_machine::{Pins, TapState};
 
-/// What a clock shows at the pins: what the player puts there and compares, TDO, and the state in which the clock begins.
+/// What a clock shows at the pins: what the player puts there and compares, TDO, and the state in which the
+/// clock begins.
 #[derive(Clone, Copy, Drop)]
 pub(crate) struct Shown {
     pub pins: Pins,
@@ -141,8 +142,8 @@ pub(crate) fn moves_stages(kept: bool, tap: TapState) -> bool
     kept && shifts_in(tap)
 }
 
-/// How many variables are to be looked at, from the first on: those after them stay from a clock to the next. `pins` is a
-/// place from which on there is no pin, and without `shifts` there are no shift stages.
+/// How many variables are to be looked at, from the first on: those after them stay from a clock to the next.
+/// `pins` is a place from which on there is no pin, and without `shifts` there are no shift stages.
 pub(crate) fn looked_at(
     vars: &[Var],
     pins: usize,

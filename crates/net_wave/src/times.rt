@@ -21,7 +21,8 @@ pub(crate) fn time_digits(alloc: Global, time: u64) -> Result<Vec<u8>, OutOfMemo
 /// Counts the decimal digits after a # up in place.
 fn count_up(line: &mut Vec<u8>) -> Result<(), OutOfMemory>
     requires { 1 ≤ length line.old.items }
-    ensures { OnOk result ((n : ℕ) → n + 1 < 2 ^ 64 → line.old.items ≡ 35 ∷ decimal n → line.new.items ≡ 35 ∷ decimal (n + 1)) }
+    ensures { OnOk result ((n : ℕ) → n + 1 < 2 ^ 64 → line.old.items ≡ 35 ∷ decimal n
+        → line.new.items ≡ 35 ∷ decimal (n + 1)) }
 {
     let len = line.len();
     for k in 0..len - 1 {

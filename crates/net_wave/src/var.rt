@@ -5,10 +5,11 @@ ghost use Rattle.net_wave.specs.Header as header;
 /// Which variables a wave has.
 #[derive(Clone, Copy, PartialEq, Eq, Debug)]
 pub enum WaveKind {
-    /// Pins, compares, the state of the TAP controller, the instruction, and the scan and bit that are shifted.
+    /// Pins, compares, the state of the TAP controller, the instruction, and the scan and bit that are
+    /// shifted.
     Pins,
-    /// These, and of each register its update stage and whether it is on the active scan path, of each scan multiplexer
-    /// its row, of each instrument its ports and words.
+    /// These, and of each register its update stage and whether it is on the active scan path, of each scan
+    /// multiplexer its row, of each instrument its ports and words.
     State,
     /// These, and the shift stage of each register.
     All,

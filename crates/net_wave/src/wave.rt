@@ -40,12 +40,15 @@ fn put_moments<S: Shelf>(
     requires playing { IsPlaying playing.old }
     requires there { IsThere (S.files shelf.old) name.now }
     ensures there { OnOk result (IsThere (S.files shelf.new) name.now) }
-    ensures whole { OnOk result (Adds (with_piece (S.files shelf.old) name.now piece) (told_bytes (S.files shelf.new) name.now) (left_text playing.old)) }
+    ensures whole { OnOk result (Adds (with_piece (S.files shelf.old) name.now piece)
+        (told_bytes (S.files shelf.new) name.now) (left_text playing.old)) }
     ensures differs { OnOk result (some_differs playing.new ≡ some_differs playing.old) }
     ensures step { OnOk result (CanStep playing.new) }
-    ensures part { OnErr result (HoldsSome (S.files shelf.new) name.now (with_piece (S.files shelf.old) name.now piece) (left_text playing.old)) }
+    ensures part { OnErr result (HoldsSome (S.files shelf.new) name.now
+        (with_piece (S.files shelf.old) name.now piece) (left_text playing.old)) }
     ensures others { OthersStay (S.files shelf.old) (S.files shelf.new) name.now }
-    ensures cause { HasCauseAt name.now (S.store_faults shelf.old) (S.store_faults shelf.new) result StoreFault.Failed }
+    ensures cause { HasCauseAt name.now (S.store_faults shelf.old)
+        (S.store_faults shelf.new) result StoreFault.Failed }
     ensures loads { SameCounts (S.load_faults shelf.old) (S.load_faults shelf.new) }
 {
     let mut piece = piece;
@@ -76,8 +79,10 @@ fn declare(
 ) -> Result<Declared, OutOfMemory>
     requires well_formed { IsNet net.now }
     requires models { AreModels net.now models.now.items }
-    ensures text { IfOk result (λ it. it.text ≡ header net.now device.now (map seen_model models.now.items) top.now (items kind net.now (map seen_model models.now.items))) }
-    ensures vars { IfOk result (λ it. pin_vars ++ it.vars.items ≡ vars kind net.now (map seen_model models.now.items)) }
+    ensures text { IfOk result (λ it. it.text ≡ header net.now device.now
+        (map seen_model models.now.items) top.now (items kind net.now (map seen_model models.now.items))) }
+    ensures vars { IfOk result (λ it. pin_vars ++ it.vars.items
+        ≡ vars kind net.now (map seen_model models.now.items)) }
     ensures there { IfOk result (λ it. All (IsVar net.now (map seen_model models.now.items)) it.vars.items) }
 {
     let items = wave_items(alloc, kind, net, models)?;
@@ -102,39 +107,45 @@ fn play<'a>(
     requires scans { scans_in commands.now ≤ 1000000000 }
     requires there { All (IsVar net.now (map seen_model models.now.items)) vars.items }
     ensures playing { IfOk result (λ playing. IsPlaying playing) }
-    ensures differs { IfOk result (λ playing. some_differs playing ≡ is_any (differs_of net.now device.now (map seen_model models.now.items) commands.now)) }
-    ensures text { IfOk result (λ playing. left_text playing ≡ moments_text (moments_of (chip net.now device.now (map seen_model models.now.items)) (map seen_model models.now.items) (pin_vars ++ vars.items) (pins InReset 0 commands.now) window)) }
+    ensures differs { IfOk result (λ playing. some_differs playing
+        ≡ is_any (differs_of net.now device.now (map seen_model models.now.items) commands.now)) }
+    ensures text { IfOk result (λ playing. left_text playing
+        ≡ moments_text (moments_of (chip net.now device.now (map seen_model models.now.items))
+        (map seen_model models.now.items) (pin_vars ++ vars.items) (pins InReset 0 commands.now) window)) }
 {
     let mut playing = Playing::new(alloc, net, device, models, commands, vars, window)?;
     playing.skip(window.from);
     Ok(playing)
 }
 
-/// Writes the waves of a play to a file, from its front, as a VCD file (IEEE 1364-2005, 18.2). `commands` are played from
-/// power-up on a device with a scan network and its instruments, of which `models` has one for each, in the network's order.
-/// `top` is the name of the outermost scope. Of the text no more than 65,536 bytes, the declarations and one clock are kept.
+/// Writes the waves of a play to a file, from its front, as a VCD file (IEEE 1364-2005, 18.2). `commands` are
+/// played from power-up on a device with a scan network and its instruments, of which `models` has one for
+/// each, in the network's order. `top` is the name of the outermost scope. Of the text no more than 65,536
+/// bytes, the declarations and one clock are kept.
 ///
-/// Clock k is the two times 2k, at which TCK is 0, and 2k + 1, at which it is 1. In both stand the pins of the clock, and what
-/// the chip holds before it, so that at a rising edge of TCK one reads what the edge samples; what the clock does is seen at
-/// 2k + 2. The time after the last clock of the window shows the state at its end, with TMS and TDI 0. Times are in ns, which
-/// says nothing of a frequency, and those that 64 bits can't hold stand as the greatest that they can.
+/// Clock k is the two times 2k, at which TCK is 0, and 2k + 1, at which it is 1. In both stand the pins of
+/// the clock, and what the chip holds before it, so that at a rising edge of TCK one reads what the edge
+/// samples; what the clock does is seen at 2k + 2. The time after the last clock of the window shows the
+/// state at its end, with TMS and TDI 0. Times are in ns, which says nothing of a frequency, and those that
+/// 64 bits can't hold stand as the greatest that they can.
 ///
-/// In the scope of the top stand TCK, TMS, TDI and TDO; `expect`, what TDO is compared with, x where it isn't compared;
-/// `differs`, 1 where it is compared and is another bit; `tap`, the state of the TAP controller in the code of IEEE
-/// 1149.1-2013; `instruction`, the update stage of the instruction register; `scan` and `bit`, the scan, counted from 1, and
-/// the position that are shifted. Scopes for module instances, registers, multiplexers and the words of instruments follow,
-/// in the network's order.
+/// In the scope of the top stand TCK, TMS, TDI and TDO; `expect`, what TDO is compared with, x where it isn't
+/// compared; `differs`, 1 where it is compared and is another bit; `tap`, the state of the TAP controller in
+/// the code of IEEE 1149.1-2013; `instruction`, the update stage of the instruction register; `scan` and
+/// `bit`, the scan, counted from 1, and the position that are shifted. Scopes for module instances,
+/// registers, multiplexers and the words of instruments follow, in the network's order.
 ///
 /// Answers whether a compare of the whole play differs, also where the window ends before.
 ///
 /// # Errors
 ///
-/// - `Failed`: the shelf could not begin the file, write a piece or keep it, and its count of failed stores under this name
-///   rose.
-/// - `OutOfMemory`: there was no memory for the bench, for the variables or for a piece of the text, or the shelf had none.
+/// - `Failed`: the shelf could not begin the file, write a piece or keep it, and its count of failed stores
+///   under this name rose.
+/// - `OutOfMemory`: there was no memory for the bench, for the variables or for a piece of the text, or the
+///   shelf had none.
 ///
-/// After a refusal the file is as before, or holds some first bytes of the text. Other files and the counts of failed loads
-/// stay.
+/// After a refusal the file is as before, or holds some first bytes of the text. Other files and the counts
+/// of failed loads stay.
 pub fn put_wave_file<S: Shelf>(
     alloc: Global,
     kind: WaveKind,
@@ -150,11 +161,16 @@ pub fn put_wave_file<S: Shelf>(
     requires well_formed { IsNet net.now }
     requires models { AreModels net.now models.now.items }
     requires scans { scans_in commands.now ≤ 1000000000 }
-    ensures differs { IfOk result (λ differs. differs ≡ is_any (differs_of net.now device.now (map seen_model models.now.items) commands.now)) }
-    ensures whole { OnOk result (file_at (S.files shelf.new) name.now ≡ option_map (λ _. Some (wave_text kind net.now device.now (map seen_model models.now.items) top.now commands.now window)) (S.files shelf.old)) }
-    ensures part { OnErr result (HoldsPart (S.files shelf.old) (S.files shelf.new) name.now (wave_text kind net.now device.now (map seen_model models.now.items) top.now commands.now window)) }
+    ensures differs { IfOk result (λ differs. differs
+        ≡ is_any (differs_of net.now device.now (map seen_model models.now.items) commands.now)) }
+    ensures whole { OnOk result
+        (file_at (S.files shelf.new) name.now ≡ option_map (λ _. Some (wave_text kind net.now device.now
+        (map seen_model models.now.items) top.now commands.now window)) (S.files shelf.old)) }
+    ensures part { OnErr result (HoldsPart (S.files shelf.old) (S.files shelf.new) name.now
+        (wave_text kind net.now device.now (map seen_model models.now.items) top.now commands.now window)) }
     ensures others { OthersStay (S.files shelf.old) (S.files shelf.new) name.now }
-    ensures cause { HasCauseAt name.now (S.store_faults shelf.old) (S.store_faults shelf.new) result StoreFault.Failed }
+    ensures cause { HasCauseAt name.now (S.store_faults shelf.old)
+        (S.store_faults shelf.new) result StoreFault.Failed }
     ensures loads { SameCounts (S.load_faults shelf.old) (S.load_faults shelf.new) }
 {
     let it = declare(alloc, kind, net, device, models, top)?;

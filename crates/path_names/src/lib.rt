@@ -1,4 +1,5 @@
-//! The written paths of what stands in a network: instances, registers, data ports, aliases and scan multiplexers.
+//! The written paths of what stands in a network: instances, registers, data ports, aliases and scan
+//! multiplexers.
 #![tactic(auto)]
 
 mod paths;

@@ -4,7 +4,8 @@ ghost use Rattle.std.specs.List.{flat_map};
 ghost use Rattle.ij_io.specs.Bytes.{Adds, AddsPart};
 ghost use Rattle.ij_io.specs.Causes.{HasCause};
 ghost use Rattle.net_graph.specs.Nets.{IsNet};
-ghost use Rattle.net_graph.specs.PathNames.{with_dot, after_dot, joined, node_names, instance_path, thing_path, mux_path};
+ghost use Rattle.net_graph.specs.PathNames.{with_dot, after_dot, joined, node_names, instance_path};
+ghost use Rattle.net_graph.specs.PathNames.{thing_path, mux_path};
 
 use ij_io::{Sink, StoreFault};
 use ij_text::Name;
@@ -12,7 +13,8 @@ use net_graph::Net;
 
 /// Writes a name.
 ///
-/// The refusals are those of the sink, which then took some first bytes of the name. It takes no memory itself.
+/// The refusals are those of the sink, which then took some first bytes of the name. It takes no memory
+/// itself.
 pub fn put_name<K: Sink>(name: &Name, k: &mut K) -> Result<(), StoreFault>
     ensures whole { OnOk result (Adds (K.taken k.old) (K.taken k.new) name.now.items) }
     ensures part { OnErr result (AddsPart (K.taken k.old) (K.taken k.new) name.now.items) }
@@ -109,10 +111,11 @@ fn name_of_thing(net: &Net, thing: u32) -> &Name
     &net.things.get(thing as usize).name
 }
 
-/// Writes the path of an instance, by its node: the names below the top, joined by dots (IEEE 1687-2014, ICL: `Instance`).
-/// The top's path is empty.
+/// Writes the path of an instance, by its node: the names below the top, joined by dots (IEEE 1687-2014, ICL:
+/// `Instance`). The top's path is empty.
 ///
-/// The refusals are those of the sink, which then took some first bytes of the path. It takes no memory itself.
+/// The refusals are those of the sink, which then took some first bytes of the path. It takes no memory
+/// itself.
 pub fn put_instance_path<K: Sink>(net: &Net, node: u32, k: &mut K) -> Result<(), StoreFault>
     requires there { node < length net.now.nodes.items }
     ensures whole { OnOk result (Adds (K.taken k.old) (K.taken k.new) (instance_path net.now node)) }
@@ -122,10 +125,11 @@ pub fn put_instance_path<K: Sink>(net: &Net, node: u32, k: &mut K) -> Result<(),
     put_joined(names_of(net, node), k)
 }
 
-/// Writes the path of a thing, which is a register, data port or alias: the names of its node and its own, joined by dots
-/// (IEEE 1687-2014, ICL: `ScanRegister`, `DataInPort`, `DataOutPort`, `Alias`).
+/// Writes the path of a thing, which is a register, data port or alias: the names of its node and its own,
+/// joined by dots (IEEE 1687-2014, ICL: `ScanRegister`, `DataInPort`, `DataOutPort`, `Alias`).
 ///
-/// The refusals are those of the sink, which then took some first bytes of the path. It takes no memory itself.
+/// The refusals are those of the sink, which then took some first bytes of the path. It takes no memory
+/// itself.
 pub fn put_thing_path<K: Sink>(net: &Net, thing: u32, k: &mut K) -> Result<(), StoreFault>
     requires well_formed { IsNet net.now }
     requires there { thing < length net.now.things.items }
@@ -158,9 +162,11 @@ fn name_of_mux(net: &Net, mux: u32) -> &Name
     &net.muxes.get(mux as usize).name
 }
 
-/// Writes the path of a scan multiplexer: the names of its node and its own, joined by dots (IEEE 1687-2014, ICL: `ScanMux`).
+/// Writes the path of a scan multiplexer: the names of its node and its own, joined by dots (IEEE 1687-2014,
+/// ICL: `ScanMux`).
 ///
-/// The refusals are those of the sink, which then took some first bytes of the path. It takes no memory itself.
+/// The refusals are those of the sink, which then took some first bytes of the path. It takes no memory
+/// itself.
 pub fn put_mux_path<K: Sink>(net: &Net, mux: u32, k: &mut K) -> Result<(), StoreFault>
     requires well_formed { IsNet net.now }
     requires there { mux < length net.now.muxes.items }

@@ -1,5 +1,6 @@
 -- Rows whose muxes are done: they write nothing more.
-use Rattle.std.proofs.Common.{◌≡◌, ℕ, ◌<◌, Bool, true, false, List, [], ◌∷◌, ◌++◌, length, refl, sym, ap, ◌∙◌, subst, arith}
+use Rattle.std.proofs.Common.{◌≡◌, ℕ, ◌<◌, Bool, true, false, List, [], ◌∷◌, ◌++◌, length, refl, sym, ap, ◌∙◌}
+use Rattle.std.proofs.Common.{subst, arith}
 use Rattle.std.specs.Prelude.{All, slice_set}
 use Rattle.std.proofs.lemmas.List.{get_or-set_same, length-set, set-get_or}
 use Rattle.std.proofs.lemmas.List.Elements.{All-head, All-tail, All-cons}
@@ -16,19 +17,26 @@ use Rattle.path_planner.proofs.Collecting.{marked_stays}
 abbrev pub AreDone : List Bool → List Branch → Type 0
 AreDone done bs = All (λ b. bit done b.mux ≡ true) bs
 
-stays_done : (bs : List Branch) (done : List Bool) (m : ℕ) → bit done m ≡ true → bit (all_done done bs) m ≡ true
+stays_done : (bs : List Branch) (done : List Bool) (m : ℕ)
+    → bit done m ≡ true → bit (all_done done bs) m ≡ true
 stays_done [] done m e = e
 stays_done (b ∷ bs) done m e = stays_done bs (slice_set done b.mux true) m (marked_stays done b.mux m e)
 
 -- what is marked is done
-marked_done : (bs : List Branch) (done : List Bool) → All (λ b. b.mux < length done) bs → AreDone (all_done done bs) bs
+marked_done : (bs : List Branch) (done : List Bool)
+    → All (λ b. b.mux < length done) bs → AreDone (all_done done bs) bs
 marked_done [] done h = λ k d l. absurd (omega (arith, l))
 marked_done (b ∷ bs) done h =
     let there : b.mux < length done = All-head (λ c. c.mux < length done) b bs h in
-    let rest : All (λ c. c.mux < length (slice_set done b.mux true)) bs = λ k d l. let t = All-tail (λ c. c.mux < length done) b bs h k d l in omega (arith, t, length-set done b.mux true) in
-    All-cons (λ c. bit (all_done (slice_set done b.mux true) bs) c.mux ≡ true) b bs (stays_done bs (slice_set done b.mux true) b.mux (get_or-set_same done b.mux true false there)) (marked_done bs (slice_set done b.mux true) rest)
+    let rest : All (λ c. c.mux < length (slice_set done b.mux true)) bs = λ k d l.
+    let t = All-tail (λ c. c.mux < length done) b bs h k d l in
+    omega (arith, t, length-set done b.mux true) in
+    All-cons (λ c. bit (all_done (slice_set done b.mux true) bs) c.mux ≡ true) b bs
+    (stays_done bs (slice_set done b.mux true) b.mux (get_or-set_same done b.mux true false there))
+    (marked_done bs (slice_set done b.mux true) rest)
 
-pub now_done : (net : Net) (bs : List Branch) (done now : List Bool) → All (IsBranchOf net) bs → length done ≡ length net.muxes.items → now ≡ all_done done bs → AreDone now bs
+pub now_done : (net : Net) (bs : List Branch) (done now : List Bool) → All (IsBranchOf net) bs
+    → length done ≡ length net.muxes.items → now ≡ all_done done bs → AreDone now bs
 now_done net bs done now h long e =
     let P : List Bool → Type 0 = λ l. AreDone l bs in
     subst P (sym e) (marked_done bs done (λ k d l. let t = (h k d l).mux in omega (arith, t, long)))
@@ -47,7 +55,8 @@ module _ (net : Net) (before : Holds) (path : List ℕ) where
   abbrev first : Bool → Branch → List WriteBit
   first d b = elim d [ true ↦ [] | false ↦ row_writes net before path b ]
 
-  pub none_again : (bs : List Branch) (done : List Bool) → AreDone done bs → settle_writes net before path done bs ≡ []
+  pub none_again : (bs : List Branch) (done : List Bool) → AreDone done bs
+      → settle_writes net before path done bs ≡ []
   none_again [] done h = refl
   none_again (b ∷ bs) done h =
       let is : bit done b.mux ≡ true = All-head (λ c. bit done c.mux ≡ true) b bs h in

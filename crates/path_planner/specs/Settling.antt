@@ -1,5 +1,6 @@
 -- Opening the muxes that a group needs: in one scan each of them that can be set is set.
-use Rattle.std.specs.Prelude.{◌≡◌, ℕ, ◌==◌, Bool, true, false, not, ◌&&◌, ◌||◌, List, [], ◌∷◌, map, get_or, Option, Some, None}
+use Rattle.std.specs.Prelude.{◌≡◌, ℕ, ◌==◌, Bool, true, false, not, ◌&&◌, ◌||◌, List, [], ◌∷◌, map, get_or}
+use Rattle.std.specs.Prelude.{Option, Some, None}
 use Rattle.std.specs.List.{list_all}
 use Rattle.ij_bits.specs.BitLists.{same_bit}
 use Rattle.net_graph.specs.declared.branch.Branch.{Branch}
@@ -27,7 +28,10 @@ agrees_off holds path (b ∷ bs) (v ∷ vs) (c ∷ cs) =
 abbrev pub first_value : Holds → List ℕ → List BitId → List Tern → Option Tern
 first_value holds path bs [] = None
 first_value holds path bs (t ∷ ts) =
-    elim (agrees_off holds path bs t.value.items t.care.items) [ true ↦ Some t | false ↦ first_value holds path bs ts ]
+    elim (agrees_off holds path bs t.value.items t.care.items) [
+      | true ↦ Some t
+      | false ↦ first_value holds path bs ts
+    ]
 
 -- the select bits on the path take a value, an x as 0
 abbrev pub set_selects : List ℕ → List BitId → List Bool → Holds → Holds
@@ -42,7 +46,8 @@ values_of net b = get_or (map (λ row. row.values.items) (rows_of net b.mux)) b.
 -- one needed row, judged by what is held before the scan
 abbrev pub settle_row : Net → Holds → List ℕ → Branch → Holds → Holds
 settle_row net before path b holds =
-    elim (first_value before path (selects_of net b.mux) (values_of net b)) [ Some t ↦ set_selects path (selects_of net b.mux) t.value.items holds | None ↦ holds ]
+    elim (first_value before path (selects_of net b.mux) (values_of net b))
+    [ Some t ↦ set_selects path (selects_of net b.mux) t.value.items holds | None ↦ holds ]
 
 abbrev pub is_in_row : Net → Holds → Branch → Bool
 is_in_row net holds b = elim (row_of net holds b.mux) [ Some q ↦ q == b.row | None ↦ false ]
@@ -50,7 +55,8 @@ is_in_row net holds b = elim (row_of net holds b.mux) [ Some q ↦ q == b.row | 
 abbrev pub settle_rows : Net → Holds → List ℕ → List Branch → Holds → Holds
 settle_rows net before path [] holds = holds
 settle_rows net before path (b ∷ bs) holds =
-    settle_rows net before path bs (elim (is_in_row net before b) [ true ↦ holds | false ↦ settle_row net before path b holds ])
+    settle_rows net before path bs
+    (elim (is_in_row net before b) [ true ↦ holds | false ↦ settle_row net before path b holds ])
 
 -- each needed mux that isn't in its row takes the first value of that row that agrees off the path
 abbrev pub settle : Net → List Branch → Holds → Holds
@@ -63,4 +69,5 @@ all_on net regs holds = list_all (is_in (route_of net holds)) regs
 abbrev pub IsOpening : Net → Items → SeenGroup → Holds → List Holds → Type 0
 IsOpening net form g holds [] = all_on net (registers_of g) holds ≡ true
 IsOpening net form g holds (h ∷ hs) =
-    (all_on net (registers_of g) holds ≡ false) × (h ≡ settle net (needs form g) holds) × IsOpening net form g h hs
+    (all_on net (registers_of g) holds ≡ false)
+    × (h ≡ settle net (needs form g) holds) × IsOpening net form g h hs

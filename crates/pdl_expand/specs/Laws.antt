@@ -13,4 +13,5 @@ PathsDiffer = (net : Net) → IsNet net → AreDistinct (dotted_paths (cells_of 
 
 -- a procedure has at most 100,000 steps, since each executed command gives one at most
 abbrev pub StepsAreFew : Type 0
-StepsAreFew = (procs : List AProc) (cells : List ACell) (name : List ℕ) → length (expansion procs cells name).steps ≤ 100000
+StepsAreFew = (procs : List AProc) (cells : List ACell) (name : List ℕ)
+    → length (expansion procs cells name).steps ≤ 100000

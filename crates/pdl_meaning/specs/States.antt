@@ -1,4 +1,5 @@
--- The direct meaning as a run keeps it: register bits, instruments with the counts of their events, and reads.
+-- The direct meaning as a run keeps it: register bits, instruments with the counts of their events, and
+-- reads.
 use Rattle.std.specs.Prelude.{ℕ, ◌+◌, Bool, List, [], ◌∷◌, length}
 use Rattle.instruments.specs.declared.Counts.{Counts}
 use Rattle.instruments.specs.declared.model.Model.{Model}

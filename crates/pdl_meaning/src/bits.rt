@@ -42,7 +42,10 @@ pub(crate) fn run_times(models: &List<Model>, runners: &mut [Runner], cycles: u3
     requires models { All (λ m. IsModel (seen_model m)) models.now.items }
     requires count { length runners.old ≡ length models.now.items }
     ensures shown { map (λ r. r.inputs) runners.new ≡ map (λ r. r.inputs) runners.old }
-    ensures state { (net : TheNet) (holds : Held) (reads : Reads) → AreRunning net models.now.items holds runners.old → direct_at holds (insts_of runners.new) reads ≡ run_cycles count_log net (machines_of models.now.items) cycles (direct_at holds (insts_of runners.old) reads) }
+    ensures state { (net : TheNet) (holds : Held) (reads : Reads)
+        → AreRunning net models.now.items holds runners.old
+        → direct_at holds (insts_of runners.new) reads ≡ run_cycles count_log net
+        (machines_of models.now.items) cycles (direct_at holds (insts_of runners.old) reads) }
 {
     for _ in 0..cycles {
         run_all(models, runners);

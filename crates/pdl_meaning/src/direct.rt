@@ -1,5 +1,6 @@
 // The direct meaning of bit steps, with all that they read.
-ghost use Rattle.std.specs.Prelude.{◌≡◌, ◌++◌, ◌+◌, ◌<◌, ◌≤◌, IfOk, OnOk, OnErr, IfSome, length, get_or, map, All};
+ghost use Rattle.std.specs.Prelude.{◌≡◌, ◌++◌, ◌+◌, ◌<◌, ◌≤◌, IfOk, OnOk, OnErr, IfSome, length, get_or, map};
+ghost use Rattle.std.specs.Prelude.{All};
 ghost use Rattle.instruments.specs.Machine.{count_log};
 ghost use Rattle.instruments.specs.OnNetwork.{inner_at};
 ghost use Rattle.net_graph.specs.Named.{IsBitOf};
@@ -17,11 +18,13 @@ use instruments::{Counts, Model};
 use net_graph::{BitId, BitStep, Group, Net, ReadBit};
 use std::alloc::Global;
 
-/// The direct meaning of a procedure: the value of each register bit, each instrument's words, memory and counts of events,
-/// and every bit that was read with the value found (IEEE 1687-2014, PDL level 0: iWrite, iRead, iApply, iRunLoop, iReset).
+/// The direct meaning of a procedure: the value of each register bit, each instrument's words, memory and
+/// counts of events, and every bit that was read with the value found (IEEE 1687-2014, PDL level 0: iWrite,
+/// iRead, iApply, iRunLoop, iReset).
 ///
-/// Contracts see the network, the instruments' models, and the state of `pdl_meaning`, in which each list of events is
-/// replaced by its counts. Bits that select in a multiplexer have no direct value: what is said of them means nothing.
+/// Contracts see the network, the instruments' models, and the state of `pdl_meaning`, in which each list of
+/// events is replaced by its counts. Bits that select in a multiplexer have no direct value: what is said of
+/// them means nothing.
 #[derive(Drop)]
 pub struct Direct<'a> {
     values: DataState<'a>,
@@ -33,7 +36,11 @@ impl<'a> std::marker::Model for Direct<'a> {
 
     ghost Value = { SeenDirect };
 
-    ghost view = { λ d. record { net = d.values.net; models = d.values.models; state = with_reads d.values d.reads.items } };
+    ghost view = { λ d. record {
+      net = d.values.net;
+      models = d.values.models;
+      state = with_reads d.values d.reads.items;
+    } };
 }
 
 /// How many bits some rounds read, if that many can be counted.
@@ -51,7 +58,8 @@ fn reads_in(rounds: &[Group]) -> Option<usize>
 fn read_all(values: &DataState, reads: &[ReadBit], into: &mut List<(ReadBit, bool)>)
     requires there { All (λ r. IsBitOf values.now.net r.bit) reads.now }
     requires room { length reads.now ≤ into.old.spare }
-    ensures items { into.new.items ≡ into.old.items ++ map (found count_log values.now.net (machines_of values.now.models) (with_reads values.now into.old.items)) reads.now }
+    ensures items { into.new.items ≡ into.old.items ++ map (found count_log values.now.net
+        (machines_of values.now.models) (with_reads values.now into.old.items)) reads.now }
     ensures room { into.new.spare + length reads.now ≡ into.old.spare }
 {
     for read in reads {
@@ -65,7 +73,8 @@ fn do_round(values: &mut DataState, reads: &mut List<(ReadBit, bool)>, group: &G
     requires room { length group.now.reads.items ≤ reads.old.spare }
     ensures net { values.new.net ≡ values.old.net }
     ensures models { values.new.models ≡ values.old.models }
-    ensures state { with_reads values.new reads.new.items ≡ do_group count_log values.old.net (machines_of values.old.models) (with_reads values.old reads.old.items) (seen_group group.now) }
+    ensures state { with_reads values.new reads.new.items ≡ do_group count_log values.old.net
+        (machines_of values.old.models) (with_reads values.old reads.old.items) (seen_group group.now) }
     ensures room { reads.new.spare + length group.now.reads.items ≡ reads.old.spare }
 {
     read_all(values, group.reads.as_slice(), reads);
@@ -78,7 +87,8 @@ fn do_all_rounds(values: &mut DataState, reads: &mut List<(ReadBit, bool)>, roun
     requires room { reads_of (map seen_group rounds.now) ≤ reads.old.spare }
     ensures net { values.new.net ≡ values.old.net }
     ensures models { values.new.models ≡ values.old.models }
-    ensures state { with_reads values.new reads.new.items ≡ do_rounds count_log values.old.net (machines_of values.old.models) (with_reads values.old reads.old.items) (map seen_group rounds.now) }
+    ensures state { with_reads values.new reads.new.items ≡ do_rounds count_log values.old.net
+        (machines_of values.old.models) (with_reads values.old reads.old.items) (map seen_group rounds.now) }
 {
     for group in rounds {
         do_round(values, reads, group);
@@ -86,8 +96,9 @@ fn do_all_rounds(values: &mut DataState, reads: &mut List<(ReadBit, bool)>, roun
 }
 
 impl<'a> Direct<'a> {
-    /// At power-up, before the first step: register bits at their reset values and 0 without one, instruments at the numbers
-    /// with which they begin, no event and no read. `models` has a model for each instrument, in the network's order.
+    /// At power-up, before the first step: register bits at their reset values and 0 without one, instruments
+    /// at the numbers with which they begin, no event and no read. `models` has a model for each instrument,
+    /// in the network's order.
     pub fn power_up(
         alloc: Global,
         net: &'a Net,
@@ -95,7 +106,11 @@ impl<'a> Direct<'a> {
     ) -> Result<Direct<'a>, OutOfMemory>
         requires well_formed { IsNet net.now }
         requires models { AreModels net.now models.now.items }
-        ensures begins { IfOk result (λ d. d ≡ record { net = net.now; models = models.now.items; state = power_up count_log net.now (machines_of models.now.items) }) }
+        ensures begins { IfOk result (λ d. d ≡ record {
+          net = net.now;
+          models = models.now.items;
+          state = power_up count_log net.now (machines_of models.now.items);
+        }) }
         ensures insts { IfOk result (λ d. length d.state.insts ≡ length net.now.insts.items) }
     {
         Ok(Direct {
@@ -106,8 +121,9 @@ impl<'a> Direct<'a> {
 
     /// Does one step. It takes memory only for the reads of an iApply, before anything is done.
     ///
-    /// - An iApply: its rounds one after the other. In a round every read takes the value of its bit's capture signal, then
-    ///   all writes take effect at once, then every instrument whose inputs differ has a change event.
+    /// - An iApply: its rounds one after the other. In a round every read takes the value of its bit's
+    ///   capture signal, then all writes take effect at once, then every instrument whose inputs differ has a
+    ///   change event.
     /// - A run: that many run events for every instrument.
     /// - A reset: register bits with a reset value take it, then every instrument has a reset event.
     ///
@@ -116,7 +132,10 @@ impl<'a> Direct<'a> {
     /// `OutOfMemory`, and then all is as before the step.
     pub fn step(&mut self, step: &BitStep) -> Result<(), OutOfMemory>
         requires { IsStep self.old.net (seen_step step.now) }
-        ensures ok { OnOk result (self.new ≡ record self.old { state = do_step count_log self.old.net (machines_of self.old.models) self.old.state (seen_step step.now) }) }
+        ensures ok { OnOk result (self.new ≡ record self.old {
+          state = do_step count_log self.old.net
+              (machines_of self.old.models) self.old.state (seen_step step.now);
+        }) }
         ensures err { OnErr result (self.new ≡ self.old) }
         ensures insts { length self.new.state.insts ≡ length self.old.state.insts }
     {
@@ -136,7 +155,10 @@ impl<'a> Direct<'a> {
     /// Does the rounds of an iApply.
     fn apply(&mut self, rounds: &[Group]) -> Result<(), OutOfMemory>
         requires { All (IsGroup self.old.net) (map seen_group rounds.now) }
-        ensures ok { OnOk result (self.new ≡ record self.old { state = do_rounds count_log self.old.net (machines_of self.old.models) self.old.state (map seen_group rounds.now) }) }
+        ensures ok { OnOk result (self.new ≡ record self.old {
+          state = do_rounds count_log self.old.net
+              (machines_of self.old.models) self.old.state (map seen_group rounds.now);
+        }) }
         ensures err { OnErr result (self.new ≡ self.old) }
     {
         let Some(count) = reads_in(rounds) else {
@@ -155,7 +177,8 @@ impl<'a> Direct<'a> {
         self.values.value(bit)
     }
 
-    /// The number of an instrument's word, counted from 0 in the order of its model, 0 past the last one. It takes no memory.
+    /// The number of an instrument's word, counted from 0 in the order of its model, 0 past the last one. It
+    /// takes no memory.
     pub fn word(&self, inst: u32, w: u32) -> u64
         requires { inst < length self.now.state.insts }
         ensures { result ≡ get_or (inner_at self.now.state.insts inst).words w 0 }

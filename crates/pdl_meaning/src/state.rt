@@ -18,12 +18,12 @@ use instruments::{Counts, Model, Runner, captured, reset_all, show_all, start};
 use net_graph::{BitId, Holds, Net, WriteBit};
 use std::alloc::Global;
 
-/// The register bits and the instruments of a network, as a procedure meets them: no scan chain and no multiplexer
-/// (IEEE 1687-2014, PDL level 0).
+/// The register bits and the instruments of a network, as a procedure meets them: no scan chain and no
+/// multiplexer (IEEE 1687-2014, PDL level 0).
 ///
-/// Contracts see the network, the instruments' models, what the update stages hold, and the instruments with the counts of
-/// their events. Bits that select in a multiplexer stand among the others and mean nothing. Only
-/// [`power_up`](DataState::power_up) takes memory.
+/// Contracts see the network, the instruments' models, what the update stages hold, and the instruments with
+/// the counts of their events. Bits that select in a multiplexer stand among the others and mean nothing.
+/// Only [`power_up`](DataState::power_up) takes memory.
 #[derive(Drop)]
 pub struct DataState<'a> {
     net: &'a Net,
@@ -39,14 +39,19 @@ impl<'a> std::marker::Model for DataState<'a> {
 
     ghost Value = { SeenState };
 
-    ghost view = { λ s. record { net = s.net.now; models = s.models.now.items; holds = s.holds; insts = insts_of s.runners.items } };
+    ghost view = { λ s. record {
+      net = s.net.now;
+      models = s.models.now.items;
+      holds = s.holds;
+      insts = insts_of s.runners.items;
+    } };
 
     ghost invariant = { λ s. IsState s.net.now s.models.now.items s.holds s.runners.items };
 }
 
 impl<'a> DataState<'a> {
-    /// The network at power-up, with a model for each instrument: register bits at their reset values and 0 without one,
-    /// instruments at the numbers with which they begin and without an event.
+    /// The network at power-up, with a model for each instrument: register bits at their reset values and 0
+    /// without one, instruments at the numbers with which they begin and without an event.
     pub fn power_up(
         alloc: Global,
         net: &'a Net,
@@ -54,7 +59,12 @@ impl<'a> DataState<'a> {
     ) -> Result<DataState<'a>, OutOfMemory>
         requires well_formed { IsNet net.now }
         requires models { AreModels net.now models.now.items }
-        ensures { IfOk result (λ s. s ≡ record { net = net.now; models = models.now.items; holds = start_holds net.now; insts = fresh count_log (machines_of models.now.items) }) }
+        ensures { IfOk result (λ s. s ≡ record {
+          net = net.now;
+          models = models.now.items;
+          holds = start_holds net.now;
+          insts = fresh count_log (machines_of models.now.items);
+        }) }
     {
         let holds = Holds::power_up(alloc, net)?;
         let runners = start(alloc, net, models, &holds)?;
@@ -69,7 +79,8 @@ impl<'a> DataState<'a> {
     /// The value that a read of a register bit finds: that of its capture signal.
     pub fn found(&self, bit: BitId) -> bool
         requires { IsBitOf self.now.net bit }
-        ensures { result ≡ signal (outputs (machines_of self.now.models) self.now.insts) self.now.holds (capture_signal self.now.net bit) }
+        ensures { result ≡ signal (outputs (machines_of self.now.models) self.now.insts) self.now.holds
+            (capture_signal self.now.net bit) }
     {
         let sig = capture_of(self.net, bit);
         captured(sig, &self.holds, self.models, self.runners.as_slice())
@@ -78,7 +89,11 @@ impl<'a> DataState<'a> {
     /// Writes register bits all at once; then every instrument whose inputs differ has a change event.
     pub fn write(&mut self, writes: &[WriteBit])
         requires { All (λ w. IsBitOf self.old.net w.bit) writes.now }
-        ensures { self.new ≡ record self.old { holds = write_all self.old.holds writes.now; insts = changes count_log self.old.net (machines_of self.old.models) self.old.holds (write_all self.old.holds writes.now) self.old.insts } }
+        ensures { self.new ≡ record self.old {
+          holds = write_all self.old.holds writes.now;
+          insts = changes count_log self.old.net (machines_of self.old.models) self.old.holds
+              (write_all self.old.holds writes.now) self.old.insts;
+        } }
     {
         write_bits(&mut self.holds, writes);
         show_all(
@@ -92,14 +107,19 @@ impl<'a> DataState<'a> {
     /// So many run events for every instrument.
     pub fn run(&mut self, cycles: u32)
         ensures others { self.new ≡ record self.old { insts = self.new.insts } }
-        ensures state { (reads : Reads) → with_reads self.new reads ≡ run_cycles count_log self.old.net (machines_of self.old.models) cycles (with_reads self.old reads) }
+        ensures state { (reads : Reads) → with_reads self.new reads ≡ run_cycles count_log self.old.net
+            (machines_of self.old.models) cycles (with_reads self.old reads) }
     {
         run_times(self.models, self.runners.as_mut_slice(), cycles);
     }
 
     /// A reset: register bits with a reset value take it, then every instrument has a reset event.
     pub fn reset(&mut self)
-        ensures { self.new ≡ record self.old { holds = reset_holds self.old.net self.old.holds; insts = all_have count_log self.old.net (machines_of self.old.models) Reset (reset_holds self.old.net self.old.holds) self.old.insts } }
+        ensures { self.new ≡ record self.old {
+          holds = reset_holds self.old.net self.old.holds;
+          insts = all_have count_log self.old.net
+              (machines_of self.old.models) Reset (reset_holds self.old.net self.old.holds) self.old.insts;
+        } }
     {
         self.holds.reset(self.net);
         reset_all(

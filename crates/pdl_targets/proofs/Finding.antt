@@ -5,18 +5,23 @@ use Rattle.pdl_targets.specs.declared.fault.TargetFault.{TargetFault}
 use Rattle.pdl_targets.specs.Seen.{Refuses, fault_of}
 use Rattle.pdl_targets.specs.Targets.{AFault, Found, Is, Fails, found_then, and_more, or_skip}
 
-pub then_is : {A B : Type 0} (x : Found A) (a : A) (next : A → Found B) → x ≡ Is a → found_then x next ≡ next a
+pub then_is : {A B : Type 0} (x : Found A) (a : A) (next : A → Found B)
+    → x ≡ Is a → found_then x next ≡ next a
 then_is x a next e = ap (λ y. found_then y next) e
 
 -- a refusal at first is one of the whole
-refused_if : {A B : Type 0} (f : Found A → Found B) → ((fault : AFault) → f (Fails fault) ≡ Fails fault) → (x : Found A) (o : Option AFault) → IfSome o (λ fault. x ≡ Fails fault) → IfSome o (λ fault. f x ≡ Fails fault)
+refused_if : {A B : Type 0} (f : Found A → Found B)
+    → ((fault : AFault) → f (Fails fault) ≡ Fails fault) → (x : Found A) (o : Option AFault)
+    → IfSome o (λ fault. x ≡ Fails fault) → IfSome o (λ fault. f x ≡ Fails fault)
 refused_if f goes x None h = tt
 refused_if f goes x (Some fault) h = ap f h ∙ goes fault
 
-pub refused_by : {A B : Type 0} (f : Found A → Found B) → ((fault : AFault) → f (Fails fault) ≡ Fails fault) → (x : Found A) (e : TargetFault) → Refuses x e → Refuses (f x) e
+pub refused_by : {A B : Type 0} (f : Found A → Found B) → ((fault : AFault) → f (Fails fault) ≡ Fails fault)
+    → (x : Found A) (e : TargetFault) → Refuses x e → Refuses (f x) e
 refused_by f goes x e h = record { says = refused_if f goes x (fault_of e) h.says }
 
-pub refused_then : {A B : Type 0} (x : Found A) (next : A → Found B) (e : TargetFault) → Refuses x e → Refuses (found_then x next) e
+pub refused_then : {A B : Type 0} (x : Found A) (next : A → Found B) (e : TargetFault)
+    → Refuses x e → Refuses (found_then x next) e
 refused_then x next e h = refused_by (λ y. found_then y next) (λ fault. refl) x e h
 
 pub refused_as : {A : Type 0} (x y : Found A) (e : TargetFault) → x ≡ y → Refuses y e → Refuses x e
@@ -36,7 +41,8 @@ after_none (Is ys) = refl
 after_none (Fails fault) = refl
 
 -- one value more, found after some
-pub after_more : {A : Type 0} (xs : List A) (x : Found A) (a : A) (more : Found (List A)) → x ≡ Is a → after xs (or_skip (Some x) more) ≡ after (xs ++ a ∷ []) more
+pub after_more : {A : Type 0} (xs : List A) (x : Found A) (a : A) (more : Found (List A)) → x ≡ Is a
+    → after xs (or_skip (Some x) more) ≡ after (xs ++ a ∷ []) more
 after_more {A = A} xs x a more e = ap (λ y. after xs (and_more y more)) e ∙ by_more more
   where
     by_more : (more : Found (List A)) → after xs (and_more (Is a) more) ≡ after (xs ++ a ∷ []) more
@@ -44,5 +50,6 @@ after_more {A = A} xs x a more e = ap (λ y. after xs (and_more y more)) e ∙ b
     by_more (Fails fault) = refl
 
 -- and one that is refused
-pub refused_more : {A : Type 0} (xs : List A) (x : Found A) (more : Found (List A)) (e : TargetFault) → Refuses x e → Refuses (after xs (or_skip (Some x) more)) e
+pub refused_more : {A : Type 0} (xs : List A) (x : Found A) (more : Found (List A)) (e : TargetFault)
+    → Refuses x e → Refuses (after xs (or_skip (Some x) more)) e
 refused_more xs x more e h = refused_by (λ y. after xs (and_more y more)) (λ fault. refl) x e h

@@ -4,7 +4,8 @@ use Rattle.pdl_targets.specs.declared.gather.Gathered.{Gathered}
 use Rattle.pdl_targets.specs.SeenGathered.{IsKept}
 use Rattle.pdl_targets.specs.Rows.{StampedRows}
 
-pub with_rows : (net : Net) (g : Gathered) (rows : StampedRows) → IsKept net g → IsKept net (record g { rows = rows })
+pub with_rows : (net : Net) (g : Gathered) (rows : StampedRows)
+    → IsKept net g → IsKept net (record g { rows = rows })
 with_rows net g rows kept = record {
   limited = record { rounds = kept.limited.rounds; cycles = kept.limited.cycles };
   writes = kept.writes;

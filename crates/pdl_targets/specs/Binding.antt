@@ -8,12 +8,15 @@ use Rattle.net_graph.specs.declared.step.WriteBit.{WriteBit}
 use Rattle.net_graph.specs.declared.step.ReadBit.{ReadBit}
 use Rattle.net_graph.specs.SeenSteps.{SeenGroup, SeenStep, Apply, Run, Reset}
 use Rattle.pdl_parser.specs.Values.{AValue, ANumber, AWord, AnArgument}
-use Rattle.pdl_expand.specs.Values.{ADeed, Writes, Reads, Applies, Runs, Resets, BeginsMerge, EndsBranch, EndsMerge, AStep}
-use Rattle.pdl_targets.specs.Targets.{AFault, IsBadCount, IsLimit, IsUnapplied, Found, Is, Fails, found_then, write_bits, read_bits}
+use Rattle.pdl_expand.specs.Values.{ADeed, Writes, Reads, Applies, Runs, Resets, BeginsMerge, EndsBranch}
+use Rattle.pdl_expand.specs.Values.{EndsMerge, AStep}
+use Rattle.pdl_targets.specs.Targets.{AFault, IsBadCount, IsLimit, IsUnapplied, Found, Is, Fails, found_then}
+use Rattle.pdl_targets.specs.Targets.{write_bits, read_bits}
 use Rattle.pdl_targets.specs.Rounds.{Places, put_writes, put_reads, mention, groups}
 
--- what came since the last iApply: the writes and reads, the registers in the order of their first mention, and the place
--- of the first iWrite or iRead; and from the begin on how many iReads, rounds and run cycles there were
+-- what came since the last iApply: the writes and reads, the registers in the order of their first mention,
+-- and the place of the first iWrite or iRead; and from the begin on how many iReads, rounds and run cycles
+-- there were
 pub record Queue : Type 0 where
   pub writes : List WriteBit
   pub reads : List ReadBit
@@ -36,10 +39,20 @@ first_of None at = Some at
 first_of (Some first) at = Some first
 
 abbrev pub with_writes : Queue → Place → List WriteBit → Queue
-with_writes q at ws = record q { writes = put_writes q.writes ws; registers = mention q.registers (map (λ w. w.bit.reg) ws); pending = first_of q.pending at }
+with_writes q at ws = record q {
+  writes = put_writes q.writes ws;
+  registers = mention q.registers (map (λ w. w.bit.reg) ws);
+  pending = first_of q.pending at;
+}
 
 abbrev pub with_reads : Queue → Place → List ReadBit → Queue
-with_reads q at rs = record q { reads = put_reads q.reads rs; registers = mention q.registers (map (λ r. r.bit.reg) rs); pending = first_of q.pending at; asked = q.asked + 1 }
+with_reads q at rs = record q {
+  reads = put_reads q.reads rs;
+  registers =
+      mention q.registers (map (λ r. r.bit.reg) rs);
+  pending = first_of q.pending at;
+  asked = q.asked + 1;
+}
 
 abbrev pub applied : List SeenGroup → Option SeenStep
 applied [] = None
@@ -49,7 +62,17 @@ applied (g ∷ gs) = Some (Apply (g ∷ gs))
 abbrev pub apply : Place → Queue → List SeenGroup → Found Answer
 apply at q gs =
     cond (nat_lt 4096 (q.rounds + length gs)) (Fails (IsLimit at Groups 4096))
-    (Is (record { queue = record q { writes = []; reads = []; registers = []; pending = None; rounds = q.rounds + length gs }; step = applied gs }))
+    (Is (record {
+      queue = record q {
+        writes = [];
+        reads = [];
+        registers =
+            [];
+        pending = None;
+        rounds = q.rounds + length gs;
+      };
+      step = applied gs;
+    }))
 
 abbrev pub run_of : ℕ → Option SeenStep
 run_of n = cond (n == 0) None (Some (Run n))
@@ -58,7 +81,8 @@ run_of n = cond (n == 0) None (Some (Run n))
 abbrev pub run : Place → Queue → ℕ → Found Answer
 run at q n =
     cond (nat_lt 1000000 n) (Fails (IsLimit at RunLoop 1000000))
-    (cond (nat_lt 4000000 (q.cycles + n)) (Fails (IsLimit at RunCycles 4000000)) (Is (record { queue = record q { cycles = q.cycles + n }; step = run_of n })))
+    (cond (nat_lt 4000000 (q.cycles + n)) (Fails (IsLimit at RunCycles 4000000))
+    (Is (record { queue = record q { cycles = q.cycles + n }; step = run_of n })))
 
 -- the number of cycles is a decimal
 abbrev pub run_value : Place → Queue → AValue → Found Answer
@@ -75,8 +99,10 @@ abbrev pub feed : Net → Places → Queue → AStep → Found Answer
 feed net places q s = deed s.what
   where
     deed : ADeed → Found Answer
-    deed (Writes target value) = found_then (write_bits net s.at s.node target value) (λ ws. nothing_done (with_writes q s.at ws))
-    deed (Reads target value) = found_then (read_bits net s.at s.node (q.asked + 1) target value) (λ rs. nothing_done (with_reads q s.at rs))
+    deed (Writes target value) =
+        found_then (write_bits net s.at s.node target value) (λ ws. nothing_done (with_writes q s.at ws))
+    deed (Reads target value) = found_then (read_bits net s.at s.node (q.asked + 1) target value)
+        (λ rs. nothing_done (with_reads q s.at rs))
     deed Applies = apply s.at q (groups places q.writes q.reads q.registers)
     deed (Runs value) = run_value s.at q value
     deed Resets = Is (record { queue = q; step = Some Reset })

@@ -23,7 +23,8 @@ slot_of (Out inst port pos i) = slot inst port pos
 
 -- the register bit, if it captures a signal or its inverse
 abbrev pub picked : Captor → Sig → Option Picked
-picked c s = cond (same_source c.signal s) (Some (record { bit = c.bit; inverted = differ (is_inverted c.signal) (is_inverted s) })) None
+picked c s = cond (same_source c.signal s)
+    (Some (record { bit = c.bit; inverted = differ (is_inverted c.signal) (is_inverted s) })) None
 
 -- the first of some that does
 abbrev pub first_captor : List Captor → Sig → Option Picked

@@ -21,15 +21,18 @@ row_at rows row = slice_index_or rows row no_set
 
 -- a round has a row of the mux that is another one
 abbrev pub has_other : ℕ → MuxSets → ℕ → ℕ → Bool
-has_other stamp m row k = has_round stamp m.several k || (has_round stamp m.any k && not (has_round stamp (row_at m.rows row) k))
+has_other stamp m row k =
+    has_round stamp m.several k || (has_round stamp m.any k && not (has_round stamp (row_at m.rows row) k))
 
--- no stamp of the mux is above that of the table, any has the rounds of each row, and several has those of two rows
+-- no stamp of the mux is above that of the table, any has the rounds of each row, and several has those of
+-- two rows
 pub record AreMuxSets (stamp : ℕ) (m : MuxSets) : Type 0 where
   pub any_below : m.any.stamp ≤ stamp
   pub several_below : m.several.stamp ≤ stamp
   pub row_below : (row : ℕ) → (row_at m.rows row).stamp ≤ stamp
   pub any_has : (row k : ℕ) → has_round stamp (row_at m.rows row) k ≡ true → has_round stamp m.any k ≡ true
-  pub several_has : (row other k : ℕ) → (row == other) ≡ false → has_round stamp (row_at m.rows row) k ≡ true → has_round stamp (row_at m.rows other) k ≡ true
+  pub several_has : (row other k : ℕ) → (row == other) ≡ false → has_round stamp (row_at m.rows row) k ≡ true
+      → has_round stamp (row_at m.rows other) k ≡ true
       → has_round stamp m.several k ≡ true
 
 pub record StampedRows : Type 0 where

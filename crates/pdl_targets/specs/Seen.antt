@@ -3,7 +3,9 @@ use Rattle.std.specs.Prelude.{◌≡◌, Option, Some, None, IsSome, Result, Ok,
 use Rattle.std.specs.Option.{IfSome}
 use Rattle.pdl_targets.specs.declared.fault.TargetFault.{TargetFault}
 use Rattle.pdl_targets.specs.declared.fault.TargetFault.TheVariants as fault
-use Rattle.pdl_targets.specs.Targets.{AFault, IsNoTarget, IsNoValue, IsValueWide, IsNotWritable, IsNotReadable, IsSelectTarget, IsBadCount, IsLimit, IsUnapplied, Found, Is, Fails}
+use Rattle.pdl_targets.specs.Targets.{AFault, IsNoTarget, IsNoValue, IsValueWide, IsNotWritable}
+use Rattle.pdl_targets.specs.Targets.{IsNotReadable, IsSelectTarget, IsBadCount, IsLimit, IsUnapplied, Found}
+use Rattle.pdl_targets.specs.Targets.{Is, Fails}
 
 -- the fault that a refusal says, unless memory ran out
 abbrev pub fault_of : TargetFault → Option AFault

@@ -12,7 +12,15 @@ use Rattle.pdl_targets.specs.Seen.{Refuses}
 use Rattle.pdl_targets.specs.Targets.{Found, Is}
 
 abbrev pub seen_gathered : Gathered → Queue
-seen_gathered g = record { writes = g.writes.items; reads = g.reads.items; registers = g.registers.items; pending = g.pending; asked = g.asked; rounds = g.rounds; cycles = g.cycles }
+seen_gathered g = record {
+  writes = g.writes.items;
+  reads = g.reads.items;
+  registers = g.registers.items;
+  pending = g.pending;
+  asked = g.asked;
+  rounds = g.rounds;
+  cycles = g.cycles;
+}
 
 -- the limits of rounds and run cycles are kept
 pub record IsLimited (g : Gathered) : Type 0 where
@@ -28,7 +36,8 @@ pub record IsKept (net : Net) (g : Gathered) : Type 0 where
 
 -- a queue after an iApply of so many rounds
 abbrev pub applied_queue : Queue → ℕ → Queue
-applied_queue q n = record q { writes = []; reads = []; registers = []; pending = None; rounds = q.rounds + n }
+applied_queue q n =
+    record q { writes = []; reads = []; registers = []; pending = None; rounds = q.rounds + n }
 
 -- a step's answer is what it makes of the queue and its bit step, or says the fault in place of them
 abbrev pub Binds : Found Answer → Queue → Result (Option BitStep) TargetFault → Type 0

@@ -1,5 +1,6 @@
 -- Rounds and groups that were made, and the round of a register.
-use Rattle.std.specs.Prelude.{◌≡◌, ◌<◌, ◌≤◌, ◌++◌, ℕ, zero, suc, Bool, true, false, List, [], ◌∷◌, get_or, length, map, Option, Some, None}
+use Rattle.std.specs.Prelude.{◌≡◌, ◌<◌, ◌≤◌, ◌++◌, ℕ, zero, suc, Bool, true, false, List, [], ◌∷◌, get_or}
+use Rattle.std.specs.Prelude.{length, map, Option, Some, None}
 use Rattle.std.specs.List.{list_any}
 use Rattle.ij_bits.specs.Room.{Listed}
 use Rattle.net_graph.specs.declared.step.Group.{Group}
@@ -46,7 +47,9 @@ with_read (g ∷ gs) (suc k) r = g ∷ with_read gs k r
 
 -- groups of one write more, and of one read more
 abbrev pub TakesWrite : List (List ℕ) → WriteBit → List Group → List Group → Type 0
-TakesWrite rounds w old new = (writes : List WriteBit) (reads : List ReadBit) → AreGroups rounds writes reads old → AreGroups rounds (writes ++ w ∷ []) reads new
+TakesWrite rounds w old new = (writes : List WriteBit) (reads : List ReadBit)
+    → AreGroups rounds writes reads old → AreGroups rounds (writes ++ w ∷ []) reads new
 
 abbrev pub TakesRead : List (List ℕ) → ReadBit → List Group → List Group → Type 0
-TakesRead rounds r old new = (writes : List WriteBit) (reads : List ReadBit) → AreGroups rounds writes reads old → AreGroups rounds writes (reads ++ r ∷ []) new
+TakesRead rounds r old new = (writes : List WriteBit) (reads : List ReadBit)
+    → AreGroups rounds writes reads old → AreGroups rounds writes (reads ++ r ∷ []) new

@@ -41,7 +41,9 @@ fn write(
     requires net { IsNet net.now }
     requires index { IsIndex net.now index.now }
     requires kept { IsKept net.now gathered.old }
-    ensures answer { Binds (found_then (write_bits net.now at node (seen_target target.now) (seen_value value.now)) (λ ws. nothing_done (with_writes (seen_gathered gathered.old) at ws))) (seen_gathered gathered.new) result }
+    ensures answer { Binds (found_then (write_bits net.now at node (seen_target target.now)
+        (seen_value value.now)) (λ ws. nothing_done (with_writes (seen_gathered gathered.old) at ws)))
+        (seen_gathered gathered.new) result }
     ensures stays { OnErr result (seen_gathered gathered.new ≡ seen_gathered gathered.old) }
     ensures kept { IsKept net.now gathered.new }
 {
@@ -66,7 +68,9 @@ fn read(
     requires index { IsIndex net.now index.now }
     requires few { gathered.old.asked + 1 < 2 ^ 32 }
     requires kept { IsKept net.now gathered.old }
-    ensures answer { Binds (found_then (read_bits net.now at node (gathered.old.asked + 1) (seen_target target.now) (option_map seen_value value.now)) (λ rs. nothing_done (with_reads (seen_gathered gathered.old) at rs))) (seen_gathered gathered.new) result }
+    ensures answer { Binds (found_then (read_bits net.now at node (gathered.old.asked + 1)
+        (seen_target target.now) (option_map seen_value value.now)) (λ rs. nothing_done
+        (with_reads (seen_gathered gathered.old) at rs))) (seen_gathered gathered.new) result }
     ensures stays { OnErr result (seen_gathered gathered.new ≡ seen_gathered gathered.old) }
     ensures kept { IsKept net.now gathered.new }
 {
@@ -90,7 +94,8 @@ fn bind(
     requires index { IsIndex net.now index.now }
     requires few { gathered.old.asked + 1 < 2 ^ 32 }
     requires kept { IsKept net.now gathered.old }
-    ensures answer { Binds (feed net.now (places_in tree.now) (seen_gathered gathered.old) (seen_step step.now)) (seen_gathered gathered.new) result }
+    ensures answer { Binds (feed net.now (places_in tree.now) (seen_gathered gathered.old)
+        (seen_step step.now)) (seen_gathered gathered.new) result }
     ensures stays { OnErr result (seen_gathered gathered.new ≡ seen_gathered gathered.old) }
     ensures kept { IsKept net.now gathered.new }
 {
@@ -148,8 +153,8 @@ fn put_back(place: &mut Option<Made>, made: Made)
     *place = Some(made);
 }
 
-/// Binds the steps of a procedure to single register bits (IEEE 1687-2014, PDL level 0: iWrite, iRead, iApply, iRunLoop,
-/// iReset).
+/// Binds the steps of a procedure to single register bits (IEEE 1687-2014, PDL level 0: iWrite, iRead,
+/// iApply, iRunLoop, iReset).
 ///
 /// Contracts see the network, its nested form, and the queue: what came since the last iApply.
 #[derive(Drop)]
@@ -178,8 +183,8 @@ impl<'a> Model for Binder<'a> {
 }
 
 impl<'a> Binder<'a> {
-    /// An empty queue for the steps of a procedure on a network, which is well formed, and whose nested form the tree is.
-    /// Takes no memory.
+    /// An empty queue for the steps of a procedure on a network, which is well formed, and whose nested form
+    /// the tree is. Takes no memory.
     pub fn new(alloc: Global, net: &'a Net, tree: &'a Tree) -> Self
         requires { IsNet net.now }
         ensures { result ≡ record { net = net.now; form = tree.now; queue = empty } }
@@ -192,21 +197,25 @@ impl<'a> Binder<'a> {
         }
     }
 
-    /// Takes in a step. A write or a read joins the queue; an iApply gives the rounds of the queue, or `None` where it names
-    /// no bit, and empties it; an iRunLoop gives its cycles, or `None` where they are 0. After a refusal the queue is as it
-    /// was. The iReads that were taken in, with this step, are fewer than 2^32.
+    /// Takes in a step. A write or a read joins the queue; an iApply gives the rounds of the queue, or `None`
+    /// where it names no bit, and empties it; an iRunLoop gives its cycles, or `None` where they are 0. After
+    /// a refusal the queue is as it was. The iReads that were taken in, with this step, are fewer than 2^32.
     ///
     /// # Errors
     ///
     /// At an iWrite or an iRead the first of these: [`TargetFault::NoTarget`], [`TargetFault::NoValue`],
-    /// [`TargetFault::ValueWide`]; then for each bit that isn't x, from position 0 on, [`TargetFault::NotWritable`] or
-    /// [`TargetFault::NotReadable`], and [`TargetFault::SelectTarget`]. At an iApply [`TargetFault::Limit`] where its rounds
-    /// would be more than 4096 with those before. At an iRunLoop [`TargetFault::BadCount`], and [`TargetFault::Limit`] above
-    /// 1,000,000 cycles, or above 4,000,000 with those before.
+    /// [`TargetFault::ValueWide`]; then for each bit that isn't x, from position 0 on,
+    /// [`TargetFault::NotWritable`] or [`TargetFault::NotReadable`], and [`TargetFault::SelectTarget`]. At an
+    /// iApply [`TargetFault::Limit`] where its rounds would be more than 4096 with those before. At an
+    /// iRunLoop [`TargetFault::BadCount`], and [`TargetFault::Limit`] above 1,000,000 cycles, or above
+    /// 4,000,000 with those before.
     pub fn feed(&mut self, step: &Step) -> Result<Option<BitStep>, TargetFault>
         requires { self.old.queue.asked + 1 < 2 ^ 32 }
-        ensures given { IfOk result (λ o. feed self.old.net (places_in self.old.form) self.old.queue (seen_step step.now) ≡ Is (record { queue = self.new.queue; step = option_map bit_steps.seen_step o })) }
-        ensures refused { IfErr result (Refuses (feed self.old.net (places_in self.old.form) self.old.queue (seen_step step.now))) }
+        ensures given { IfOk result
+            (λ o. feed self.old.net (places_in self.old.form) self.old.queue (seen_step step.now)
+            ≡ Is (record { queue = self.new.queue; step = option_map bit_steps.seen_step o })) }
+        ensures refused { IfErr result
+            (Refuses (feed self.old.net (places_in self.old.form) self.old.queue (seen_step step.now))) }
         ensures stays { OnErr result (self.new.queue ≡ self.old.queue) }
         ensures net { self.new.net ≡ self.old.net }
         ensures form { self.new.form ≡ self.old.form }
@@ -228,7 +237,8 @@ impl<'a> Binder<'a> {
     ///
     /// # Errors
     ///
-    /// [`TargetFault::Unapplied`] exactly where an iWrite or an iRead came after the last iApply, with the place of the first.
+    /// [`TargetFault::Unapplied`] exactly where an iWrite or an iRead came after the last iApply, with the
+    /// place of the first.
     pub fn finish(&self) -> Result<(), TargetFault>
         ensures { Finishes (finish self.now.queue) result }
     {

@@ -3,7 +3,8 @@ ghost use Rattle.std.specs.Prelude.{◌≡◌, ◌<◌, ℕ, ◌^◌, length, Al
 ghost use Rattle.ij_text.specs.Options.{or_else};
 ghost use Rattle.net_graph.specs.declared.net.Sig.{Sig as ASignal};
 ghost use Rattle.net_graph.specs.Nets.{IsNet};
-ghost use Rattle.pdl_targets.specs.Captors.{Adds, AreCaptors, captors_in, captured, first_captor, picked, slot, slot_of};
+ghost use Rattle.pdl_targets.specs.Captors.{Adds, AreCaptors, captors_in, captured, first_captor, picked};
+ghost use Rattle.pdl_targets.specs.Captors.{slot, slot_of};
 ghost use Rattle.pdl_targets.specs.Targets.{capturing, captured_from, compared};
 
 use crate::picks::{Picked, capture_of, flip_if, held_if_captured, is_inverted, same_source};
@@ -18,15 +19,15 @@ pub(crate) struct Captor {
     pub signal: Sig,
 }
 
-/// Which register bits capture a signal: its slot lists them, in net order and then by position, with those of the other
-/// signals of that slot.
+/// Which register bits capture a signal: its slot lists them, in net order and then by position, with those
+/// of the other signals of that slot.
 #[derive(Drop)]
 pub(crate) struct Captors {
     pub slots: Vec<List<Captor>>,
 }
 
-/// The slot of a bit of a register, or of an output of an instrument: a number below the prime 8191. Within the limits two bits
-/// of one register or instrument have different slots.
+/// The slot of a bit of a register, or of an output of an instrument: a number below the prime 8191. Within
+/// the limits two bits of one register or instrument have different slots.
 fn slot(owner: u32, port: u32, pos: u32) -> usize
     ensures { result ≡ slot owner port pos }
 {
@@ -121,7 +122,8 @@ fn add_register(
     captures: &[Sig],
 ) -> Result<(), OutOfMemory>
     requires { length captures.now < 2 ^ 32 }
-    ensures { OnOk result ((s : ASignal) → captured slots.new.items s ≡ or_else (captured slots.old.items s) (capturing reg 0 captures.now s)) }
+    ensures { OnOk result ((s : ASignal) → captured slots.new.items s
+        ≡ or_else (captured slots.old.items s) (capturing reg 0 captures.now s)) }
 {
     for pos in 0..captures.len() {
         let signal = captures[pos];

@@ -7,12 +7,14 @@ use ij_text::{Place, Which};
 use net_graph::BitId;
 use std::alloc::{AllocError, AllocFailed};
 
-/// Why a step can't be bound to register bits (IEEE 1687-2014, PDL level 0). Each place is that of the step's command.
+/// Why a step can't be bound to register bits (IEEE 1687-2014, PDL level 0). Each place is that of the step's
+/// command.
 #[derive(Clone, Copy, Drop)]
 pub enum TargetFault {
     /// There is no memory.
     OutOfMemory,
-    /// There is no register, data port or alias of this name, an index lies outside it, or its indices run the other way.
+    /// There is no register, data port or alias of this name, an index lies outside it, or its indices run
+    /// the other way.
     NoTarget {
         at: Place,
     },

@@ -5,7 +5,8 @@ ghost use Rattle.net_graph.specs.declared.net.Net.{Net as ANet};
 ghost use Rattle.net_graph.specs.Named.{IsBitOf};
 ghost use Rattle.net_graph.specs.SeenSteps.{seen_group, seen_step};
 ghost use Rattle.pdl_parser.specs.Views.{seen_value};
-ghost use Rattle.pdl_targets.specs.Binding.{applied, apply, empty, finish, first_of, run, run_of, run_value, with_reads, with_writes};
+ghost use Rattle.pdl_targets.specs.Binding.{applied, apply, empty, finish, first_of, run, run_of, run_value};
+ghost use Rattle.pdl_targets.specs.Binding.{with_reads, with_writes};
 ghost use Rattle.pdl_targets.specs.Laws.{AreEachOnce};
 ghost use Rattle.pdl_targets.specs.Rounds.{groups};
 ghost use Rattle.pdl_targets.specs.Seen.{Finishes};
@@ -120,7 +121,8 @@ impl Gathered {
     pub fn write(&mut self, net: &Net, at: Place, writes: &[WriteBit]) -> Result<(), OutOfMemory>
         requires kept { IsKept net.now self.old }
         requires bits { All (λ w. IsBitOf net.now w.bit) writes.now }
-        ensures ok { OnOk result (seen_gathered self.new ≡ with_writes (seen_gathered self.old) at writes.now) }
+        ensures ok { OnOk result (seen_gathered self.new
+            ≡ with_writes (seen_gathered self.old) at writes.now) }
         ensures err { OnErr result (seen_gathered self.new ≡ seen_gathered self.old) }
         ensures kept { IsKept net.now self.new }
     {
@@ -154,7 +156,8 @@ impl Gathered {
     fn applied(&mut self, count: u32)
         requires { self.old.rounds + count < 2 ^ 32 }
         ensures queue { seen_gathered self.new ≡ applied_queue (seen_gathered self.old) count }
-        ensures kept { (net : ANet) → IsKept net self.old → self.old.rounds + count ≤ 4096 → IsKept net self.new }
+        ensures kept { (net : ANet) → IsKept net self.old
+            → self.old.rounds + count ≤ 4096 → IsKept net self.new }
     {
         self.writes.clear();
         self.reads.clear();
@@ -172,7 +175,9 @@ impl Gathered {
     ) -> Result<Option<BitStep>, TargetFault>
         requires limited { IsLimited self.old }
         requires once { AreEachOnce self.old.registers.items }
-        ensures answer { Binds (apply at (seen_gathered self.old) (groups (places_in tree.now) self.old.writes.items self.old.reads.items self.old.registers.items)) (seen_gathered self.new) result }
+        ensures answer { Binds (apply at (seen_gathered self.old)
+            (groups (places_in tree.now) self.old.writes.items self.old.reads.items self.old.registers.items))
+            (seen_gathered self.new) result }
         ensures stays { OnErr result (seen_gathered self.new ≡ seen_gathered self.old) }
         ensures kept { (net : ANet) → IsKept net self.old → IsKept net self.new }
     {
@@ -226,7 +231,8 @@ impl Gathered {
     /// The run of an iRunLoop with this value. Takes no memory.
     pub fn run_value(&mut self, at: Place, value: &Value) -> Result<Option<BitStep>, TargetFault>
         requires { IsLimited self.old }
-        ensures answer { Binds (run_value at (seen_gathered self.old) (seen_value value.now)) (seen_gathered self.new) result }
+        ensures answer { Binds (run_value at (seen_gathered self.old) (seen_value value.now))
+            (seen_gathered self.new) result }
         ensures stays { OnErr result (seen_gathered self.new ≡ seen_gathered self.old) }
         ensures kept { (net : ANet) → IsKept net self.old → IsKept net self.new }
     {

@@ -5,7 +5,8 @@ ghost use Rattle.net_graph.specs.Path.{is_in};
 ghost use Rattle.pdl_targets.specs.Laws.{AreEachOnce};
 ghost use Rattle.pdl_targets.specs.Rounds.{groups};
 ghost use Rattle.pdl_targets.specs.SeenPlaces.{places_in};
-ghost use Rattle.pdl_targets.specs.SeenRounds.{AreGroups, AreOnceInAll, IsRoundOf, TakesRead, TakesWrite, seen_groups, seen_rounds, with_read, with_write};
+ghost use Rattle.pdl_targets.specs.SeenRounds.{AreGroups, AreOnceInAll, IsRoundOf, TakesRead, TakesWrite};
+ghost use Rattle.pdl_targets.specs.SeenRounds.{seen_groups, seen_rounds, with_read, with_write};
 
 use crate::rounds::rounds;
 use crate::rows::RowSets;
@@ -21,7 +22,8 @@ struct Hint {
     place: usize,
 }
 
-/// Where registers are thought to stand, in the order of their marks. A hint is looked at before it is believed.
+/// Where registers are thought to stand, in the order of their marks. A hint is looked at before it is
+/// believed.
 #[derive(Drop)]
 struct Hints<'a> {
     marks: &'a BitMarks,
@@ -233,8 +235,8 @@ fn groups_in(
     Ok(List::from(groups))
 }
 
-/// The groups of a queue, one for each round. The table is emptied first. The marks of the registers are their places, counted
-/// from 1.
+/// The groups of a queue, one for each round. The table is emptied first. The marks of the registers are
+/// their places, counted from 1.
 pub(crate) fn groups(
     alloc: Global,
     tree: &Tree,
@@ -245,7 +247,8 @@ pub(crate) fn groups(
     registers: &[u32],
 ) -> Result<List<Group>, OutOfMemory>
     requires { AreEachOnce registers.now }
-    ensures { IfOk result (λ gs. map seen_group gs.items ≡ groups (places_in tree.now) writes.now reads.now registers.now) }
+    ensures { IfOk result (λ gs. map seen_group gs.items
+        ≡ groups (places_in tree.now) writes.now reads.now registers.now) }
 {
     let rounds = rounds(alloc, tree, rows, registers)?;
     let hints = hints_of(alloc, marks, &rounds, registers.len())?;

@@ -19,7 +19,8 @@ pub(crate) struct Index {
     pub selects: BitMarks,
     /// Which register bits capture a signal.
     pub captors: Captors,
-    /// The keys of the things in their order, a hint where a thing stands: it is looked at before it is believed.
+    /// The keys of the things in their order, a hint where a thing stands: it is looked at before it is
+    /// believed.
     pub things: Names,
 }
 

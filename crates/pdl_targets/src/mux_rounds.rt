@@ -1,5 +1,6 @@
 // In which rounds the rows of one mux are.
-ghost use Rattle.std.specs.Prelude.{◌≡◌, ◌≤◌, ◌<◌, ◌==◌, ◌&&◌, ◌||◌, ◌+◌, ◌*◌, ℕ, not, true, vec_len, OnErr, OnOk};
+ghost use Rattle.std.specs.Prelude.{◌≡◌, ◌≤◌, ◌<◌, ◌==◌, ◌&&◌, ◌||◌, ◌+◌, ◌*◌, ℕ, not, true, vec_len, OnErr};
+ghost use Rattle.std.specs.Prelude.{OnOk};
 ghost use Rattle.std.specs.Int.{bit_at};
 ghost use Rattle.pdl_targets.specs.Sets.{has_round, word_of};
 ghost use Rattle.pdl_targets.specs.Rows.{AreMuxSets, has_other, no_mux, row_at};
@@ -29,9 +30,12 @@ fn put(
     row: u32,
     round: u32,
 ) -> Result<(), OutOfMemory>
-    ensures put { OnOk result ((r k : ℕ) → has_round stamp (row_at rows.new.items r) k ≡ ((r == row && k == round) || has_round stamp (row_at rows.old.items r) k)) }
-    ensures stays { OnErr result ((r k : ℕ) → has_round stamp (row_at rows.new.items r) k ≡ has_round stamp (row_at rows.old.items r) k) }
-    ensures below { ((r : ℕ) → (row_at rows.old.items r).stamp ≤ stamp) → (r : ℕ) → (row_at rows.new.items r).stamp ≤ stamp }
+    ensures put { OnOk result ((r k : ℕ) → has_round stamp (row_at rows.new.items r) k
+        ≡ ((r == row && k == round) || has_round stamp (row_at rows.old.items r) k)) }
+    ensures stays { OnErr result ((r k : ℕ)
+        → has_round stamp (row_at rows.new.items r) k ≡ has_round stamp (row_at rows.old.items r) k) }
+    ensures below { ((r : ℕ) → (row_at rows.old.items r).stamp ≤ stamp) → (r : ℕ)
+        → (row_at rows.new.items r).stamp ≤ stamp }
 {
     let at = row as usize;
     grow(alloc, rows, at + 1)?;
@@ -42,7 +46,8 @@ fn put(
 
 /// Puts a round in where it is wanted.
 fn add_where(set: &mut RoundSet, stamp: u32, round: u32, wanted: bool) -> Result<(), OutOfMemory>
-    ensures put { OnOk result ((k : ℕ) → has_round stamp set.new k ≡ ((wanted && k == round) || has_round stamp set.old k)) }
+    ensures put { OnOk result ((k : ℕ)
+        → has_round stamp set.new k ≡ ((wanted && k == round) || has_round stamp set.old k)) }
     ensures keeps { (k : ℕ) → has_round stamp set.old k ≡ true → has_round stamp set.new k ≡ true }
     ensures below { set.old.stamp ≤ stamp → set.new.stamp ≤ stamp }
 {
@@ -111,7 +116,8 @@ impl MuxRounds {
 
     /// Whether a round has a row, and not this one.
     fn is_further(&self, stamp: u32, row: u32, round: u32) -> bool
-        ensures { result ≡ (has_round stamp self.now.any round && not (has_round stamp (row_at self.now.rows row) round)) }
+        ensures { result
+            ≡ (has_round stamp self.now.any round && not (has_round stamp (row_at self.now.rows row) round)) }
     {
         self.any.has(stamp, round) && !self.row_has(stamp, row, round)
     }
@@ -125,7 +131,8 @@ impl MuxRounds {
         round: u32,
     ) -> Result<(), OutOfMemory>
         requires { AreMuxSets stamp self.old }
-        ensures put { OnOk result ((r k : ℕ) → has_other stamp self.new r k ≡ ((k == round && not (row == r)) || has_other stamp self.old r k)) }
+        ensures put { OnOk result ((r k : ℕ) → has_other stamp self.new r k
+            ≡ ((k == round && not (row == r)) || has_other stamp self.old r k)) }
         ensures kept { AreMuxSets stamp self.new }
     {
         let further = self.is_further(stamp, row, round);

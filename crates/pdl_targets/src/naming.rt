@@ -37,7 +37,8 @@ fn target_thing<'a>(
 ) -> Result<&'a Thing, TargetFault>
     requires net { IsNet net.now }
     requires index { IsIndex net.now index.now }
-    ensures thing { Finds (λ t. t.now) (target_thing at (thing_at net.now node (seen_target target.now).path)) result }
+    ensures thing { Finds (λ t. t.now)
+        (target_thing at (thing_at net.now node (seen_target target.now).path)) result }
     ensures formed { IfOk result (λ t. IsThing net.now t.now) }
 {
     match thing_at(alloc, net, index, node, target.path.as_slice())? {
@@ -58,7 +59,8 @@ fn named_bits<'a>(
 ) -> Result<Named<'a>, TargetFault>
     requires net { IsNet net.now }
     requires index { IsIndex net.now index.now }
-    ensures named { Finds seen_named (named net.now at node (seen_target target.now) (seen_value value.now)) result }
+    ensures named { Finds seen_named
+        (named net.now at node (seen_target target.now) (seen_value value.now)) result }
     ensures wide { IfOk result (λ n. length n.values.value.items ≡ length n.spots.now) }
     ensures few { IfOk result (λ n. length n.spots.now < 2 ^ 32) }
 {
@@ -80,7 +82,8 @@ pub(crate) fn write_bits(
 ) -> Result<List<WriteBit>, TargetFault>
     requires net { IsNet net.now }
     requires index { IsIndex net.now index.now }
-    ensures { Finds (λ ws. ws.items) (write_bits net.now at node (seen_target target.now) (seen_value value.now)) result }
+    ensures { Finds (λ ws. ws.items)
+        (write_bits net.now at node (seen_target target.now) (seen_value value.now)) result }
 {
     let named = named_bits(alloc, net, index, at, node, target, value)?;
     writes_of(alloc, net, &index.selects, at, named.spots, &named.values)
@@ -117,7 +120,8 @@ fn value_read(
 ) -> Result<List<ReadBit>, TargetFault>
     requires net { IsNet net.now }
     requires index { IsIndex net.now index.now }
-    ensures { Finds (λ rs. rs.items) (read_bits net.now at node number (seen_target target.now) (Some (seen_value value.now))) result }
+    ensures { Finds (λ rs. rs.items)
+        (read_bits net.now at node number (seen_target target.now) (Some (seen_value value.now))) result }
 {
     let named = named_bits(alloc, net, index, at, node, target, value)?;
     reads_of(
@@ -145,7 +149,8 @@ pub(crate) fn read_bits(
 ) -> Result<List<ReadBit>, TargetFault>
     requires net { IsNet net.now }
     requires index { IsIndex net.now index.now }
-    ensures { Finds (λ rs. rs.items) (read_bits net.now at node number (seen_target target.now) (option_map seen_value value.now)) result }
+    ensures { Finds (λ rs. rs.items)
+        (read_bits net.now at node number (seen_target target.now) (option_map seen_value value.now)) result }
 {
     match value {
         None => nothing_read(alloc, net, index, at, node, target),

@@ -4,7 +4,8 @@ ghost use Rattle.ij_bits.specs.BitLists.{flip_if};
 ghost use Rattle.net_graph.specs.Path.{same_place};
 ghost use Rattle.net_graph.specs.Signals.{capture_signal};
 ghost use Rattle.pdl_targets.specs.Marked.{AreSelects};
-ghost use Rattle.pdl_targets.specs.Targets.{held_if_captured, is_inverted, same_source, select_compared, written};
+ghost use Rattle.pdl_targets.specs.Targets.{held_if_captured, is_inverted, same_source, select_compared};
+ghost use Rattle.pdl_targets.specs.Targets.{written};
 
 use net_graph::{BitId, BitMarks, Net, Sig, Spot, is_marked_select, same_place};
 

@@ -39,7 +39,8 @@ fn write_bit(
     })
 }
 
-/// The read of a bit that stands for a register bit, by the iRead of this number, at this index of what it names.
+/// The read of a bit that stands for a register bit, by the iRead of this number, at this index of what it
+/// names.
 fn read_bit(
     net: &Net,
     selects: &BitMarks,

@@ -47,8 +47,8 @@ fn put_at(
     Ok(())
 }
 
-/// Puts a register into the first round with none of whose registers it clashes, or into a round of its own. The table says in
-/// which rounds the rows around their registers are.
+/// Puts a register into the first round with none of whose registers it clashes, or into a round of its own.
+/// The table says in which rounds the rows around their registers are.
 fn put_in(
     alloc: Global,
     tree: &Tree,
@@ -57,8 +57,10 @@ fn put_in(
     register: u32,
 ) -> Result<(), OutOfMemory>
     requires { AreExcluded (places_in tree.now) (seen_rounds rounds.old.items) (excluded_at rows.old) }
-    ensures put { OnOk result (seen_rounds rounds.new.items ≡ put_in (places_in tree.now) (seen_rounds rounds.old.items) register) }
-    ensures rows { OnOk result (AreExcluded (places_in tree.now) (seen_rounds rounds.new.items) (excluded_at rows.new)) }
+    ensures put { OnOk result (seen_rounds rounds.new.items
+        ≡ put_in (places_in tree.now) (seen_rounds rounds.old.items) register) }
+    ensures rows { OnOk result
+        (AreExcluded (places_in tree.now) (seen_rounds rounds.new.items) (excluded_at rows.new)) }
 {
     let place = tree.place_of(register);
     let count = count_of(rounds)?;

@@ -1,5 +1,6 @@
 // In which rounds rows of muxes are.
-ghost use Rattle.std.specs.Prelude.{◌≡◌, ◌≤◌, ◌<◌, ◌==◌, ◌&&◌, ◌||◌, ◌+◌, ◌*◌, ℕ, not, true, false, vec_len, OnOk};
+ghost use Rattle.std.specs.Prelude.{◌≡◌, ◌≤◌, ◌<◌, ◌==◌, ◌&&◌, ◌||◌, ◌+◌, ◌*◌, ℕ, not, true, false, vec_len};
+ghost use Rattle.std.specs.Prelude.{OnOk};
 ghost use Rattle.std.specs.Int.{bit_at};
 ghost use Rattle.std.specs.List.{list_any};
 ghost use Rattle.net_graph.specs.declared.branch.Branch.{Branch as ABranch};
@@ -32,7 +33,9 @@ fn put(
     round: u32,
 ) -> Result<(), OutOfMemory>
     requires { (mux : ℕ) → AreMuxSets stamp (mux_at muxes.old.items mux) }
-    ensures put { OnOk result ((mux r k : ℕ) → has_other stamp (mux_at muxes.new.items mux) r k ≡ ((k == round && ((branch.mux == mux) && not (branch.row == r))) || has_other stamp (mux_at muxes.old.items mux) r k)) }
+    ensures put { OnOk result ((mux r k : ℕ) → has_other stamp (mux_at muxes.new.items mux) r k
+        ≡ ((k == round && ((branch.mux == mux) && not (branch.row == r))) || has_other stamp
+        (mux_at muxes.old.items mux) r k)) }
     ensures kept { (mux : ℕ) → AreMuxSets stamp (mux_at muxes.new.items mux) }
 {
     let at = branch.mux as usize;
@@ -42,7 +45,8 @@ fn put(
     Ok(())
 }
 
-/// Rows of muxes in rounds. Which rounds have another row of a mux is found for 64 rounds at once, and all are taken out at once.
+/// Rows of muxes in rounds. Which rounds have another row of a mux is found for 64 rounds at once, and all
+/// are taken out at once.
 #[derive(Drop)]
 pub struct RowSets {
     alloc: Global,
@@ -88,14 +92,16 @@ impl RowSets {
 
     /// Puts a row into a round.
     fn add(&mut self, branch: Branch, round: u32) -> Result<(), OutOfMemory>
-        ensures { OnOk result ((b : ABranch) (k : ℕ) → excluded_at self.new b k ≡ ((k == round && exclude branch b) || excluded_at self.old b k)) }
+        ensures { OnOk result ((b : ABranch) (k : ℕ)
+            → excluded_at self.new b k ≡ ((k == round && exclude branch b) || excluded_at self.old b k)) }
     {
         put(self.alloc, &mut self.muxes, self.stamp, branch, round)
     }
 
     /// Puts rows into a round. After want of memory some may be in, and the table wants to be cleared.
     pub fn add_all(&mut self, branches: &[Branch], round: u32) -> Result<(), OutOfMemory>
-        ensures { OnOk result ((b : ABranch) (k : ℕ) → excluded_at self.new b k ≡ ((k == round && list_any (λ a. exclude a b) branches.now) || excluded_at self.old b k)) }
+        ensures { OnOk result ((b : ABranch) (k : ℕ) → excluded_at self.new b k
+            ≡ ((k == round && list_any (λ a. exclude a b) branches.now) || excluded_at self.old b k)) }
     {
         for branch in branches {
             self.add(*branch, round)?;
@@ -117,7 +123,8 @@ impl RowSets {
 
     /// Which of the 64 rounds from `64 * w` on have a row that one of some rows excludes. Takes no memory.
     pub fn excluded_word(&self, branches: &[Branch], w: usize) -> u64
-        ensures { (j : ℕ) → j < 64 → (bit_at result j == 1) ≡ list_any (λ b. excluded_at self.now b (64 * w + j)) branches.now }
+        ensures { (j : ℕ) → j < 64
+            → (bit_at result j == 1) ≡ list_any (λ b. excluded_at self.now b (64 * w + j)) branches.now }
     {
         let mut word = 0;
         for branch in branches {
@@ -126,7 +133,8 @@ impl RowSets {
         word
     }
 
-    /// The first of so many rounds that has no row that one of some rows excludes, or their number. Takes no memory.
+    /// The first of so many rounds that has no row that one of some rows excludes, or their number. Takes no
+    /// memory.
     pub fn first_open_round(&self, branches: &[Branch], rounds: u32) -> u32
         ensures at_most { result ≤ rounds }
         ensures before { (j : ℕ) → j < result → list_any (λ b. excluded_at self.now b j) branches.now ≡ true }

@@ -1,5 +1,6 @@
 // A set of rounds.
-ghost use Rattle.std.specs.Prelude.{◌≡◌, ◌≤◌, ◌<◌, ◌==◌, ◌||◌, ◌/◌, ℕ, length, slice_index_or, true, vec_len, OnErr, OnOk};
+ghost use Rattle.std.specs.Prelude.{◌≡◌, ◌≤◌, ◌<◌, ◌==◌, ◌||◌, ◌/◌, ℕ, length, slice_index_or, true, vec_len};
+ghost use Rattle.std.specs.Prelude.{OnErr, OnOk};
 ghost use Rattle.pdl_targets.specs.Sets.{has_round, is_in_words, no_set, word_of};
 
 use crate::words::with_bit;
@@ -7,8 +8,8 @@ use ij_bits::OutOfMemory;
 use std::alloc::Global;
 use std::marker::Model;
 
-/// A set of rounds, 64 to a word. It counts where its stamp is that of the table that it is in, so that a new stamp empties all sets
-/// of the table.
+/// A set of rounds, 64 to a word. It counts where its stamp is that of the table that it is in, so that a new
+/// stamp empties all sets of the table.
 #[derive(Drop)]
 pub struct RoundSet {
     stamp: u32,
@@ -86,7 +87,8 @@ impl RoundSet {
 
     /// Puts a round in.
     pub fn add(&mut self, stamp: u32, round: u32) -> Result<(), OutOfMemory>
-        ensures put { OnOk result ((k : ℕ) → has_round stamp self.new k ≡ (k == round || has_round stamp self.old k)) }
+        ensures put { OnOk result ((k : ℕ)
+            → has_round stamp self.new k ≡ (k == round || has_round stamp self.old k)) }
         ensures stays { OnErr result ((k : ℕ) → has_round stamp self.new k ≡ has_round stamp self.old k) }
         ensures keeps { (k : ℕ) → has_round stamp self.old k ≡ true → has_round stamp self.new k ≡ true }
         ensures stamped { self.new.stamp ≡ stamp }

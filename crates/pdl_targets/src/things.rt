@@ -111,7 +111,8 @@ fn cell_of(
     path: &[Name],
 ) -> Result<Option<u32>, OutOfMemory>
     requires { IsIndex net.now index.now }
-    ensures { IfOk result (λ o. o ≡ cell_at (cells_of net.now) ((cell (cells_of net.now) node).path ++ but_last (map bytes_of path.now))) }
+    ensures { IfOk result (λ o. o ≡ cell_at (cells_of net.now)
+        ((cell (cells_of net.now) node).path ++ but_last (map bytes_of path.now))) }
 {
     let key = put_names(List::new(alloc), path_of(net, node, &path[..0]))?;
     let key = put_names(key, names_before(path))?;
@@ -152,7 +153,8 @@ fn has_index(thing: &Thing, i: u32) -> bool
 
 /// The bits from a left index to a right one, position 0 first.
 fn slice_of(at: Place, thing: &Thing, left: u32, right: u32) -> Result<&[Spot], TargetFault>
-    requires { length thing.now.bits.items ≡ (thing.now.left - thing.now.right) + (thing.now.right - thing.now.left) + 1 }
+    requires { length thing.now.bits.items
+        ≡ (thing.now.left - thing.now.right) + (thing.now.right - thing.now.left) + 1 }
     ensures spots { Finds (λ spots. spots.now) (slice_of at thing.now left right) result }
     ensures few { IfOk result (λ spots. length spots.now ≤ length thing.now.bits.items) }
 {
@@ -171,7 +173,8 @@ pub(crate) fn spots_of(
     thing: &Thing,
     range: Option<(u32, u32)>,
 ) -> Result<&[Spot], TargetFault>
-    requires { length thing.now.bits.items ≡ (thing.now.left - thing.now.right) + (thing.now.right - thing.now.left) + 1 }
+    requires { length thing.now.bits.items
+        ≡ (thing.now.left - thing.now.right) + (thing.now.right - thing.now.left) + 1 }
     ensures spots { Finds (λ spots. spots.now) (spots_of at thing.now range) result }
     ensures few { IfOk result (λ spots. length spots.now ≤ length thing.now.bits.items) }
 {

@@ -60,7 +60,8 @@ fn fitted_word(
     word: Option<&Tern>,
     width: u32,
 ) -> Result<Tern, TargetFault>
-    ensures { Finds tern_bits (found_then (valued at (option_map (λ t. InBits (tern_bits t.now)) word.entry)) (fitted at width)) result }
+    ensures { Finds tern_bits (found_then
+        (valued at (option_map (λ t. InBits (tern_bits t.now)) word.entry)) (fitted at width)) result }
 {
     match word {
         Some(bits) => fitted(alloc, at, &copied(alloc, bits)?, width),
@@ -76,7 +77,8 @@ pub(crate) fn value_bits(
     value: &Value,
     width: u32,
 ) -> Result<Tern, TargetFault>
-    ensures { Finds tern_bits (found_then (number_at at thing.now (seen_value value.now)) (fitted at width)) result }
+    ensures { Finds tern_bits
+        (found_then (number_at at thing.now (seen_value value.now)) (fitted at width)) result }
 {
     match value {
         Value::Number(number) => fitted(alloc, at, number, width),

@@ -6,7 +6,8 @@ ghost use Rattle.std.specs.Option.{IfNone, IfSome};
 /// The lowest bit of a word that is 0, or none.
 pub fn first_open(word: u64) -> Option<u32>
     ensures none { IfNone result ((j : ℕ) → j < 64 → bit_at word j ≡ 1) }
-    ensures some { IfSome result (λ k. (k < 64) × (bit_at word k ≡ 0) × ((j : ℕ) → j < k → bit_at word j ≡ 1)) }
+    ensures some { IfSome result (λ k. (k < 64) × (bit_at word k ≡ 0)
+        × ((j : ℕ) → j < k → bit_at word j ≡ 1)) }
 {
     if word == u64::MAX {
         None

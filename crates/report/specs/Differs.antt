@@ -6,7 +6,8 @@ use Rattle.report.specs.Registers.{digit}
 
 -- the iRead of a bit, its line, and the bit's place in what it names
 abbrev pub iread_text : ReadBit → List ℕ
-iread_text r = codes " iread " ++ (decimal r.read ++ (codes " line " ++ (decimal r.line ++ (codes " index " ++ decimal r.index))))
+iread_text r = codes " iread "
+    ++ (decimal r.read ++ (codes " line " ++ (decimal r.line ++ (codes " index " ++ decimal r.index))))
 
 abbrev pub maybe_iread : Option ReadBit → List ℕ
 maybe_iread None = []
@@ -25,7 +26,8 @@ read_text d = codes "differs" ++ (maybe_iread d.read ++ (found_text d.expect d.f
 -- of a scan's compare
 abbrev pub compare_text : Differ → List ℕ
 compare_text d =
-    codes "differs" ++ (scan_text d.scan d.bit ++ (found_text d.expect d.found ++ (maybe_iread d.read ++ 10 ∷ [])))
+    codes "differs"
+    ++ (scan_text d.scan d.bit ++ (found_text d.expect d.found ++ (maybe_iread d.read ++ 10 ∷ [])))
 
 -- scans are counted from 1
 abbrev pub differ_text : Differ → List ℕ

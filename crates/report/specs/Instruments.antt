@@ -1,5 +1,6 @@
 -- The lines of instruments: their words, their memory and how often they had each kind of event.
-use Rattle.std.specs.Prelude.{ℕ, zero, suc, ◌==◌, cond, List, [], ◌∷◌, ◌++◌, codes, decimal, get_or, Option, Some, None}
+use Rattle.std.specs.Prelude.{ℕ, zero, suc, ◌==◌, cond, List, [], ◌∷◌, ◌++◌, codes, decimal, get_or, Option}
+use Rattle.std.specs.Prelude.{Some, None}
 use Rattle.net_graph.specs.declared.net.Net.{Net}
 use Rattle.instruments.specs.declared.Counts.{Counts}
 use Rattle.instruments.specs.Seen.{SeenWord, SeenMemory, SeenModel}
@@ -15,7 +16,8 @@ abbrev pub words_from : List ℕ → ℕ → List SeenWord → List ℕ
 words_from numbers k [] = []
 words_from numbers k (d ∷ ds) = word_text d.name d.width (get_or numbers k 0) ++ words_from numbers (suc k) ds
 
--- an entry of a memory: a blank, the memory's name, its index in brackets (91, 93), an equals sign, its number
+-- an entry of a memory: a blank, the memory's name, its index in brackets (91, 93), an equals sign, its
+-- number
 abbrev pub index_text : ℕ → List ℕ
 index_text index = 91 ∷ (decimal index ++ 93 ∷ 61 ∷ [])
 
@@ -29,7 +31,8 @@ entry_if name width index number = cond (number == 0) [] (entry_text name width 
 -- n entries from index k on
 abbrev pub entries_from : List ℕ → ℕ → List ℕ → ℕ → ℕ → List ℕ
 entries_from name width numbers k zero = []
-entries_from name width numbers k (suc n) = entry_if name width k (get_or numbers k 0) ++ entries_from name width numbers (suc k) n
+entries_from name width numbers k (suc n) =
+    entry_if name width k (get_or numbers k 0) ++ entries_from name width numbers (suc k) n
 
 abbrev pub memory_text : List ℕ → Option SeenMemory → List ℕ
 memory_text numbers None = []
@@ -37,9 +40,11 @@ memory_text numbers (Some d) = entries_from d.name d.width numbers 0 d.depth
 
 abbrev pub counts_text : Counts → List ℕ
 counts_text c =
-    codes " changes " ++ (decimal c.changes ++ (codes " runs " ++ (decimal c.runs ++ (codes " resets " ++ (decimal c.resets ++ 10 ∷ [])))))
+    codes " changes " ++ (decimal c.changes
+    ++ (codes " runs " ++ (decimal c.runs ++ (codes " resets " ++ (decimal c.resets ++ 10 ∷ [])))))
 
 -- an instrument with the numbers of its words and of its memory's entries
 abbrev pub instrument_text : Net → SeenModel → ℕ → List ℕ → List ℕ → Counts → List ℕ
 instrument_text net m i words memory counts =
-    codes "instrument " ++ (instrument_path net i ++ (words_from words 0 m.words ++ (memory_text memory m.memory ++ counts_text counts)))
+    codes "instrument " ++ (instrument_path net i
+    ++ (words_from words 0 m.words ++ (memory_text memory m.memory ++ counts_text counts)))

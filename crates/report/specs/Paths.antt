@@ -1,4 +1,5 @@
--- The names that reports give to registers and instruments: their paths below the top (IEEE 1687-2014, ICL: Instance).
+-- The names that reports give to registers and instruments: their paths below the top (IEEE 1687-2014, ICL:
+-- Instance).
 use Rattle.std.specs.Prelude.{ℕ, List, map, get_or}
 use Rattle.net_graph.specs.declared.net.Net.{Net}
 use Rattle.net_graph.specs.Named.{thing_of}

@@ -18,11 +18,13 @@ bit_digit net holds b = cond (is_select net b) 115 (digit (hold_at holds b))
 -- the lowest n bits of a register, the highest first
 abbrev pub register_digits : Net → Holds → ℕ → ℕ → List ℕ
 register_digits net holds r zero = []
-register_digits net holds r (suc n) = bit_digit net holds (record { reg = r; pos = n }) ∷ register_digits net holds r n
+register_digits net holds r (suc n) =
+    bit_digit net holds (record { reg = r; pos = n }) ∷ register_digits net holds r n
 
 abbrev pub register_text : Net → Holds → ℕ → List ℕ
 register_text net holds r =
-    codes "register " ++ (register_path net r ++ 32 ∷ (register_digits net holds r (width_of net r) ++ 10 ∷ []))
+    codes "register "
+    ++ (register_path net r ++ 32 ∷ (register_digits net holds r (width_of net r) ++ 10 ∷ []))
 
 -- n registers from r on
 abbrev pub registers_from : Net → Holds → ℕ → ℕ → List ℕ

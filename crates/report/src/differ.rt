@@ -2,7 +2,8 @@
 ghost use Rattle.std.specs.Prelude.{[], ◌∷◌, OnOk, OnErr};
 ghost use Rattle.ij_io.specs.Bytes.{Adds, AddsPart};
 ghost use Rattle.ij_io.specs.Causes.{HasCause};
-ghost use Rattle.report.specs.Differs.{iread_text, maybe_iread, found_text, scan_text, read_text, compare_text, differ_text};
+ghost use Rattle.report.specs.Differs.{iread_text, maybe_iread, found_text, scan_text, read_text};
+ghost use Rattle.report.specs.Differs.{compare_text, differ_text};
 ghost use Rattle.report.specs.Registers.{digit};
 
 use ij_io::{Sink, StoreFault, Word, put_words};
@@ -122,9 +123,10 @@ fn put_compare<K: Sink>(d: &Differ, k: &mut K) -> Result<(), StoreFault>
     Ok(())
 }
 
-/// Writes the line of a compare that differs: `differs scan S bit B expected E read V`, after it ` iread R line L index I` where the
-/// iRead is known; and where there is no scan, `differs iread R line L index I expected E read V` (IEEE 1687-2014, PDL level 0: iRead;
-/// Serial Vector Format, revision E: TDO and MASK). It takes no memory itself.
+/// Writes the line of a compare that differs: `differs scan S bit B expected E read V`, after it
+/// ` iread R line L index I` where the iRead is known; and where there is no scan,
+/// `differs iread R line L index I expected E read V` (IEEE 1687-2014, PDL level 0: iRead; Serial Vector
+/// Format, revision E: TDO and MASK). It takes no memory itself.
 ///
 /// # Errors
 ///

@@ -1,11 +1,13 @@
 // The lines of instruments.
-ghost use Rattle.std.specs.Prelude.{◌≡◌, ◌<◌, ◌≤◌, get_or, map, length, option_map, Some, OnOk, OnErr, All, IfSome};
+ghost use Rattle.std.specs.Prelude.{◌≡◌, ◌<◌, ◌≤◌, get_or, map, length, option_map, Some, OnOk, OnErr, All};
+ghost use Rattle.std.specs.Prelude.{IfSome};
 ghost use Rattle.ij_io.specs.Bytes.{Adds, AddsPart};
 ghost use Rattle.ij_io.specs.Causes.{HasCause};
 ghost use Rattle.instruments.specs.Models.{IsModel, IsWord, IsMemory};
 ghost use Rattle.instruments.specs.Seen.{seen_word, seen_memory, seen_model};
 ghost use Rattle.net_graph.specs.Nets.{IsNet};
-ghost use Rattle.report.specs.Instruments.{word_text, words_from, entry_if, entry_text, index_text, memory_text, counts_text, instrument_text};
+ghost use Rattle.report.specs.Instruments.{word_text, words_from, entry_if, entry_text, index_text};
+ghost use Rattle.report.specs.Instruments.{memory_text, counts_text, instrument_text};
 
 use crate::number::put_hex_number;
 use crate::path::put_instrument_path;
@@ -18,8 +20,10 @@ use path_names::put_name;
 /// Writes a word.
 fn put_word<K: Sink>(word: &WordDef, number: u64, k: &mut K) -> Result<(), StoreFault>
     requires { word.now.width ≤ 64 }
-    ensures whole { OnOk result (Adds (K.taken k.old) (K.taken k.new) (word_text word.now.name.items word.now.width number)) }
-    ensures part { OnErr result (AddsPart (K.taken k.old) (K.taken k.new) (word_text word.now.name.items word.now.width number)) }
+    ensures whole { OnOk result
+        (Adds (K.taken k.old) (K.taken k.new) (word_text word.now.name.items word.now.width number)) }
+    ensures part { OnErr result
+        (AddsPart (K.taken k.old) (K.taken k.new) (word_text word.now.name.items word.now.width number)) }
     ensures cause { HasCause (K.faults k.old) (K.faults k.new) result StoreFault.Failed }
 {
     k.write(b" ")?;
@@ -53,8 +57,10 @@ fn put_numbers<K: Sink>(
 ) -> Result<(), StoreFault>
     requires few { length words.now.items ≤ 8 }
     requires words { All IsWord (map seen_word words.now.items) }
-    ensures whole { OnOk result (Adds (K.taken k.old) (K.taken k.new) (words_from numbers.now 0 (map seen_word words.now.items))) }
-    ensures part { OnErr result (AddsPart (K.taken k.old) (K.taken k.new) (words_from numbers.now 0 (map seen_word words.now.items))) }
+    ensures whole { OnOk result
+        (Adds (K.taken k.old) (K.taken k.new) (words_from numbers.now 0 (map seen_word words.now.items))) }
+    ensures part { OnErr result (AddsPart (K.taken k.old) (K.taken k.new)
+        (words_from numbers.now 0 (map seen_word words.now.items))) }
     ensures cause { HasCause (K.faults k.old) (K.faults k.new) result StoreFault.Failed }
 {
     for i in 0..words.len() {
@@ -66,8 +72,10 @@ fn put_numbers<K: Sink>(
 /// Writes an entry of a memory.
 fn put_entry<K: Sink>(memory: &MemDef, index: u32, number: u64, k: &mut K) -> Result<(), StoreFault>
     requires { memory.now.width ≤ 64 }
-    ensures whole { OnOk result (Adds (K.taken k.old) (K.taken k.new) (entry_text memory.now.name.items memory.now.width index number)) }
-    ensures part { OnErr result (AddsPart (K.taken k.old) (K.taken k.new) (entry_text memory.now.name.items memory.now.width index number)) }
+    ensures whole { OnOk result (Adds (K.taken k.old) (K.taken k.new)
+        (entry_text memory.now.name.items memory.now.width index number)) }
+    ensures part { OnErr result (AddsPart (K.taken k.old) (K.taken k.new)
+        (entry_text memory.now.name.items memory.now.width index number)) }
     ensures cause { HasCause (K.faults k.old) (K.faults k.new) result StoreFault.Failed }
 {
     k.write(b" ")?;
@@ -102,8 +110,10 @@ fn put_entry_if<K: Sink>(
     k: &mut K,
 ) -> Result<(), StoreFault>
     requires { memory.now.width ≤ 64 }
-    ensures whole { OnOk result (Adds (K.taken k.old) (K.taken k.new) (entry_if memory.now.name.items memory.now.width index number)) }
-    ensures part { OnErr result (AddsPart (K.taken k.old) (K.taken k.new) (entry_if memory.now.name.items memory.now.width index number)) }
+    ensures whole { OnOk result (Adds (K.taken k.old) (K.taken k.new)
+        (entry_if memory.now.name.items memory.now.width index number)) }
+    ensures part { OnErr result (AddsPart (K.taken k.old) (K.taken k.new)
+        (entry_if memory.now.name.items memory.now.width index number)) }
     ensures cause { HasCause (K.faults k.old) (K.faults k.new) result StoreFault.Failed }
 {
     if number == 0 {
@@ -115,8 +125,10 @@ fn put_entry_if<K: Sink>(
 /// Writes the entries of a memory that aren't 0.
 fn put_entries<K: Sink>(memory: &MemDef, numbers: &[u64; 256], k: &mut K) -> Result<(), StoreFault>
     requires { IsMemory (seen_memory memory.now) }
-    ensures whole { OnOk result (Adds (K.taken k.old) (K.taken k.new) (memory_text numbers.now (Some (seen_memory memory.now)))) }
-    ensures part { OnErr result (AddsPart (K.taken k.old) (K.taken k.new) (memory_text numbers.now (Some (seen_memory memory.now)))) }
+    ensures whole { OnOk result
+        (Adds (K.taken k.old) (K.taken k.new) (memory_text numbers.now (Some (seen_memory memory.now)))) }
+    ensures part { OnErr result
+        (AddsPart (K.taken k.old) (K.taken k.new) (memory_text numbers.now (Some (seen_memory memory.now)))) }
     ensures cause { HasCause (K.faults k.old) (K.faults k.new) result StoreFault.Failed }
 {
     for i in 0..memory.depth {
@@ -132,8 +144,10 @@ fn put_memory<K: Sink>(
     k: &mut K,
 ) -> Result<(), StoreFault>
     requires { IfSome (option_map seen_memory memory.now) IsMemory }
-    ensures whole { OnOk result (Adds (K.taken k.old) (K.taken k.new) (memory_text numbers.now (option_map seen_memory memory.now))) }
-    ensures part { OnErr result (AddsPart (K.taken k.old) (K.taken k.new) (memory_text numbers.now (option_map seen_memory memory.now))) }
+    ensures whole { OnOk result
+        (Adds (K.taken k.old) (K.taken k.new) (memory_text numbers.now (option_map seen_memory memory.now))) }
+    ensures part { OnErr result (AddsPart (K.taken k.old) (K.taken k.new)
+        (memory_text numbers.now (option_map seen_memory memory.now))) }
     ensures cause { HasCause (K.faults k.old) (K.faults k.new) result StoreFault.Failed }
 {
     match memory {
@@ -163,9 +177,10 @@ fn put_counts<K: Sink>(counts: Counts, k: &mut K) -> Result<(), StoreFault>
     )
 }
 
-/// Writes the line of an instrument: `instrument PATH W=H M[I]=H changes C runs R resets T`, each word in the order of the model, then
-/// each entry of the memory that isn't 0, in upper-case hexadecimal digits, as many as the width takes (IEEE 1687-2014, ICL: `Instance`).
-/// `words` and `memory` are the numbers of the words and of the entries, from place 0 on. It takes no memory itself.
+/// Writes the line of an instrument: `instrument PATH W=H M[I]=H changes C runs R resets T`, each word in the
+/// order of the model, then each entry of the memory that isn't 0, in upper-case hexadecimal digits, as many
+/// as the width takes (IEEE 1687-2014, ICL: `Instance`). `words` and `memory` are the numbers of the words
+/// and of the entries, from place 0 on. It takes no memory itself.
 ///
 /// # Errors
 ///
@@ -182,8 +197,10 @@ pub fn put_instrument<K: Sink>(
     requires well_formed { IsNet net.now }
     requires model { IsModel (seen_model model.now) }
     requires there { inst < length net.now.insts.items }
-    ensures whole { OnOk result (Adds (K.taken k.old) (K.taken k.new) (instrument_text net.now (seen_model model.now) inst words.now memory.now counts)) }
-    ensures part { OnErr result (AddsPart (K.taken k.old) (K.taken k.new) (instrument_text net.now (seen_model model.now) inst words.now memory.now counts)) }
+    ensures whole { OnOk result (Adds (K.taken k.old) (K.taken k.new)
+        (instrument_text net.now (seen_model model.now) inst words.now memory.now counts)) }
+    ensures part { OnErr result (AddsPart (K.taken k.old) (K.taken k.new)
+        (instrument_text net.now (seen_model model.now) inst words.now memory.now counts)) }
     ensures cause { HasCause (K.faults k.old) (K.faults k.new) result StoreFault.Failed }
 {
     k.write(b"instrument ")?;

@@ -35,8 +35,10 @@ fn put_digits<K: Sink>(
 ) -> Result<(), StoreFault>
     requires wide { width ≤ named.width_of net.now reg }
     requires holds { AreHolds net.now holds.now }
-    ensures whole { OnOk result (Adds (K.taken k.old) (K.taken k.new) (register_digits net.now holds.now reg width)) }
-    ensures part { OnErr result (AddsPart (K.taken k.old) (K.taken k.new) (register_digits net.now holds.now reg width)) }
+    ensures whole { OnOk result
+        (Adds (K.taken k.old) (K.taken k.new) (register_digits net.now holds.now reg width)) }
+    ensures part { OnErr result
+        (AddsPart (K.taken k.old) (K.taken k.new) (register_digits net.now holds.now reg width)) }
     ensures cause { HasCause (K.faults k.old) (K.faults k.new) result StoreFault.Failed }
 {
     for j in 0..width {
@@ -67,8 +69,9 @@ pub fn width_of(net: &Net, reg: u32) -> u32
     net.regs.get(reg as usize).width
 }
 
-/// Writes the line of a register: `register PATH VALUE`, the bits in binary digits, the left index first, with an `s` for each bit that
-/// selects in a multiplexer (IEEE 1687-2014, ICL: `ScanRegister`, `ScanMux`). It takes no memory itself.
+/// Writes the line of a register: `register PATH VALUE`, the bits in binary digits, the left index first,
+/// with an `s` for each bit that selects in a multiplexer (IEEE 1687-2014, ICL: `ScanRegister`, `ScanMux`).
+/// It takes no memory itself.
 ///
 /// # Errors
 ///
@@ -83,7 +86,8 @@ pub fn put_register<K: Sink>(
     requires holds { AreHolds net.now holds.now }
     requires there { reg < length net.now.regs.items }
     ensures whole { OnOk result (Adds (K.taken k.old) (K.taken k.new) (register_text net.now holds.now reg)) }
-    ensures part { OnErr result (AddsPart (K.taken k.old) (K.taken k.new) (register_text net.now holds.now reg)) }
+    ensures part { OnErr result
+        (AddsPart (K.taken k.old) (K.taken k.new) (register_text net.now holds.now reg)) }
     ensures cause { HasCause (K.faults k.old) (K.faults k.new) result StoreFault.Failed }
 {
     let thing = thing_of(net, reg);
@@ -105,7 +109,8 @@ pub fn put_registers<K: Sink>(net: &Net, holds: &Holds, k: &mut K) -> Result<(),
     requires well_formed { IsNet net.now }
     requires holds { AreHolds net.now holds.now }
     ensures whole { OnOk result (Adds (K.taken k.old) (K.taken k.new) (registers_text net.now holds.now)) }
-    ensures part { OnErr result (AddsPart (K.taken k.old) (K.taken k.new) (registers_text net.now holds.now)) }
+    ensures part { OnErr result
+        (AddsPart (K.taken k.old) (K.taken k.new) (registers_text net.now holds.now)) }
     ensures cause { HasCause (K.faults k.old) (K.faults k.new) result StoreFault.Failed }
 {
     let count = register_count(net);

@@ -81,8 +81,10 @@ fn put_size<K: Sink>(
     groups: u32,
     k: &mut K,
 ) -> Result<(), StoreFault>
-    ensures whole { OnOk result (Adds (K.taken k.old) (K.taken k.new) (size_text registers muxes instruments groups)) }
-    ensures part { OnErr result (AddsPart (K.taken k.old) (K.taken k.new) (size_text registers muxes instruments groups)) }
+    ensures whole { OnOk result
+        (Adds (K.taken k.old) (K.taken k.new) (size_text registers muxes instruments groups)) }
+    ensures part { OnErr result
+        (AddsPart (K.taken k.old) (K.taken k.new) (size_text registers muxes instruments groups)) }
     ensures cause { HasCause (K.faults k.old) (K.faults k.new) result StoreFault.Failed }
 {
     put_words(
@@ -112,8 +114,10 @@ fn put_made<K: Sink>(
     differs: u64,
     k: &mut K,
 ) -> Result<(), StoreFault>
-    ensures whole { OnOk result (Adds (K.taken k.old) (K.taken k.new) (size_text registers muxes instruments groups ++ play_text scans clocks differs)) }
-    ensures part { OnErr result (AddsPart (K.taken k.old) (K.taken k.new) (size_text registers muxes instruments groups ++ play_text scans clocks differs)) }
+    ensures whole { OnOk result (Adds (K.taken k.old) (K.taken k.new)
+        (size_text registers muxes instruments groups ++ play_text scans clocks differs)) }
+    ensures part { OnErr result (AddsPart (K.taken k.old) (K.taken k.new)
+        (size_text registers muxes instruments groups ++ play_text scans clocks differs)) }
     ensures cause { HasCause (K.faults k.old) (K.faults k.new) result StoreFault.Failed }
 {
     put_size(registers, muxes, instruments, groups, k)?;

@@ -1,5 +1,6 @@
 -- What is packed for a plan is the plan's scan.
-use Rattle.std.proofs.Common.{◌≡◌, ℕ, Bool, true, false, List, [], ◌∷◌, length, Option, Some, None, refl, sym, ap, ◌∙◌}
+use Rattle.std.proofs.Common.{◌≡◌, ℕ, Bool, true, false, List, [], ◌∷◌, length, Option, Some, None, refl, sym}
+use Rattle.std.proofs.Common.{ap, ◌∙◌}
 use Rattle.std.specs.Prelude.{cond, reverse, unwrap_or}
 use Rattle.std.proofs.lemmas.List.{reverse-reverse}
 use Rattle.net_graph.specs.Chain.{chain}
@@ -28,24 +29,41 @@ module _ (net : Net) (holds : Holds) (route : List ℕ) (e : scan_path net holds
       let (x, f, g) = map_some reverse (active net holds) route e in
       ap (λ (o : Option (List ℕ)). unwrap_or o []) f ∙ sym (reverse-reverse x) ∙ ap reverse g
 
-  as_long : (plan : SeenGroup) → length (tdi_bits holds (reverse route) plan) ≡ length (chain (reverse route) holds)
-  as_long plan = length-chain_same (reverse route) (write_all holds plan.writes) holds (write_all-shape plan.writes holds)
+  as_long : (plan : SeenGroup)
+      → length (tdi_bits holds (reverse route) plan) ≡ length (chain (reverse route) holds)
+  as_long plan = length-chain_same (reverse route)
+      (write_all holds plan.writes) holds (write_all-shape plan.writes holds)
 
   module _ (plan : SeenGroup) (tdi : List Bool) (t : tdi ≡ tdi_bits holds (reverse route) plan) where
-    pub quiet : (rs : List ReadBit) → rs ≡ plan.reads → rs ≡ [] → quiet_scan tdi ≡ scan_of net holds (route_of net holds) plan
+    pub quiet : (rs : List ReadBit) → rs ≡ plan.reads → rs ≡ []
+        → quiet_scan tdi ≡ scan_of net holds (route_of net holds) plan
     quiet rs r n =
         let empty : is_empty plan.reads ≡ true = ap is_empty (sym r ∙ n) in
         ap quiet_scan t
         ∙ ap (λ k. record (quiet_scan (tdi_bits holds (reverse route) plan)) { len = k }) (as_long plan)
-        ∙ ap (λ (b : Bool). record (quiet_scan (tdi_bits holds (reverse route) plan)) { len = length (chain (reverse route) holds); tdo = cond b None (Some (tdo_bits net (reverse route) plan)); mask = cond b None (Some (mask_bits net (reverse route) plan)) }) (sym empty)
+        ∙ ap (λ (b : Bool). record (quiet_scan (tdi_bits holds (reverse route) plan)) {
+          len = length
+              (chain (reverse route) holds);
+          tdo = cond b None (Some (tdo_bits net (reverse route) plan));
+          mask = cond b None (Some (mask_bits net (reverse route) plan));
+        }) (sym empty)
         ∙ ap (λ p. scan_of net holds p plan) (sym turned)
 
-    pub comparing : (tdo mask : List Bool) (rs : List ReadBit) → tdo ≡ tdo_bits net (reverse route) plan → mask ≡ mask_bits net (reverse route) plan → rs ≡ plan.reads → ¬ (rs ≡ []) → comparing_scan tdi tdo mask ≡ scan_of net holds (route_of net holds) plan
+    pub comparing : (tdo mask : List Bool) (rs : List ReadBit) → tdo ≡ tdo_bits net (reverse route) plan
+        → mask ≡ mask_bits net (reverse route) plan → rs ≡ plan.reads → ¬ (rs ≡ [])
+        → comparing_scan tdi tdo mask ≡ scan_of net holds (route_of net holds) plan
     comparing tdo mask rs d m r n =
         let some : is_empty plan.reads ≡ false = some_read plan.reads (λ z. n (r ∙ z)) in
         ap (λ x. comparing_scan x tdo mask) t
         ∙ ap (λ x. comparing_scan (tdi_bits holds (reverse route) plan) x mask) d
-        ∙ ap (λ x. comparing_scan (tdi_bits holds (reverse route) plan) (tdo_bits net (reverse route) plan) x) m
-        ∙ ap (λ k. record (comparing_scan (tdi_bits holds (reverse route) plan) (tdo_bits net (reverse route) plan) (mask_bits net (reverse route) plan)) { len = k }) (as_long plan)
-        ∙ ap (λ (b : Bool). record (quiet_scan (tdi_bits holds (reverse route) plan)) { len = length (chain (reverse route) holds); tdo = cond b None (Some (tdo_bits net (reverse route) plan)); mask = cond b None (Some (mask_bits net (reverse route) plan)) }) (sym some)
+        ∙ ap (λ x. comparing_scan (tdi_bits holds (reverse route) plan)
+        (tdo_bits net (reverse route) plan) x) m
+        ∙ ap (λ k. record (comparing_scan (tdi_bits holds (reverse route) plan) (tdo_bits net
+        (reverse route) plan) (mask_bits net (reverse route) plan)) { len = k }) (as_long plan)
+        ∙ ap (λ (b : Bool). record (quiet_scan (tdi_bits holds (reverse route) plan)) {
+          len = length
+              (chain (reverse route) holds);
+          tdo = cond b None (Some (tdo_bits net (reverse route) plan));
+          mask = cond b None (Some (mask_bits net (reverse route) plan));
+        }) (sym some)
         ∙ ap (λ p. scan_of net holds p plan) (sym turned)

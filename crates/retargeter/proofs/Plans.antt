@@ -1,5 +1,6 @@
 -- Scans of plans that are written one after the other.
-use Rattle.std.proofs.Common.{◌≡◌, ◌<◌, ◌≤◌, ℕ, suc, Option, List, [], ◌∷◌, length, get_or, drop, refl, sym, ap, ◌∙◌, subst}
+use Rattle.std.proofs.Common.{◌≡◌, ◌<◌, ◌≤◌, ℕ, suc, Option, List, [], ◌∷◌, length, get_or, drop, refl, sym}
+use Rattle.std.proofs.Common.{ap, ◌∙◌, subst}
 use Rattle.std.specs.Prelude.{map}
 use Rattle.std.proofs.Math.Seq.{drop-cons}
 use Rattle.std.proofs.lemmas.List.{at_drop_all}
@@ -26,12 +27,14 @@ text net holds ps = texts_of (map SDR (scans_of net holds (map seen_plan ps)))
 abbrev pub scan_text : Net → Holds → ScanPlan → List ℕ
 scan_text net holds p = text_of (SDR (scan_of net holds (route_of net holds) (seen_plan p)))
 
-pub record Goes (net : Net) (first : Holds) (ps : List ScanPlan) (old : Option (List ℕ)) (i : ℕ) (now : Holds) (new : Option (List ℕ)) : Type 0 where
+pub record Goes (net : Net) (first : Holds) (ps : List ScanPlan) (old : Option (List ℕ)) (i : ℕ)
+    (now : Holds) (new : Option (List ℕ)) : Type 0 where
   pub front : AddsFront old new (text net now (drop i ps)) (text net first ps)
   pub holds : holds_after now (map seen_plan (drop i ps)) ≡ holds_after first (map seen_plan ps)
   pub can : CanScanAll net now (map seen_plan (drop i ps))
 
-pub scannable : (net : Net) (holds : Holds) (ps : List ScanPlan) → CanScanAll net holds (map seen_plan ps) → IsScannable net holds
+pub scannable : (net : Net) (holds : Holds) (ps : List ScanPlan)
+    → CanScanAll net holds (map seen_plan ps) → IsScannable net holds
 scannable net holds [] c = c
 scannable net holds (p ∷ ps) c = c.0
 
@@ -59,18 +62,29 @@ module _ (net : Net) (first : Holds) (ps : List ScanPlan) (old : Option (List �
       before : AddsFront old between (text net now (p ∷ drop (suc i) ps)) (text net first ps)
       before = subst (λ qs. AddsFront old between (text net now qs) (text net first ps)) next go.front
 
-      pub go_on : (j : ℕ) (after : Holds) (new : Option (List ℕ)) → j ≡ suc i → after ≡ write_all now p.writes.items → Adds between new (scan_text net now p) → Goes net first ps old j after new
+      pub go_on : (j : ℕ) (after : Holds) (new : Option (List ℕ))
+          → j ≡ suc i → after ≡ write_all now p.writes.items
+          → Adds between new (scan_text net now p) → Goes net first ps old j after new
       go_on j after new f e a =
-          subst (λ m. Goes net first ps old m after new) (sym f) (subst (λ k. Goes net first ps old (suc i) k new) (sym e) (record { front = front_next (scan_text net now p) (text net (write_all now p.writes.items) (drop (suc i) ps)) before a; holds = ap (λ qs. holds_after now (map seen_plan qs)) (sym next) ∙ go.holds; can = can.2 }))
+          subst (λ m. Goes net first ps old m after new) (sym f)
+          (subst (λ k. Goes net first ps old (suc i) k new) (sym e) (record {
+            front = front_next
+                (scan_text net now p) (text net (write_all now p.writes.items) (drop (suc i) ps)) before a;
+            holds = ap (λ qs. holds_after now (map seen_plan qs)) (sym next) ∙ go.holds;
+            can = can.2;
+          }))
 
-      pub refused : (new : Option (List ℕ)) → AddsPart between new (scan_text net now p) → AddsPart old new (text net first ps)
+      pub refused : (new : Option (List ℕ)) → AddsPart between new (scan_text net now p)
+          → AddsPart old new (text net first ps)
       refused new a =
-          front_part (scan_text net now p) (text net (write_all now p.writes.items) (drop (suc i) ps)) before a
+          front_part (scan_text net now p)
+          (text net (write_all now p.writes.items) (drop (suc i) ps)) before a
 
     module _ (l : length ps ≤ i) where
       pub all_written : Adds old between (text net first ps)
       all_written =
-          front_all (subst (λ (bytes : List ℕ). AddsFront old between bytes (text net first ps)) (at_drop_all (text net now) ps i l) go.front)
+          front_all (subst (λ (bytes : List ℕ). AddsFront old between bytes (text net first ps))
+          (at_drop_all (text net now) ps i l) go.front)
 
       pub all_after : now ≡ holds_after first (map seen_plan ps)
       all_after = sym (at_drop_all (λ qs. holds_after now (map seen_plan qs)) ps i l) ∙ go.holds

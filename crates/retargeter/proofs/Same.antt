@@ -15,14 +15,20 @@ use Rattle.headline.proofs.One.{plans_same}
 use Rattle.retargeter.specs.Writing.{WritesGroup, WritesGroupPart, IsAfterGroup}
 
 -- so what was written for some plans is what is written of the group
-module _ (net : Net) (form : Items) (g : SeenGroup) (holds : Holds) (named : ¬ IsEmpty g) (mine : List SeenGroup) (m : ArePlans net form g holds mine) where
-  pub writes_group : {old new : Option (List ℕ)} → Adds old new (texts_of (map SDR (scans_of net holds mine))) → WritesGroup net form holds g old new
+module _ (net : Net) (form : Items) (g : SeenGroup) (holds : Holds) (named : ¬ IsEmpty g)
+    (mine : List SeenGroup) (m : ArePlans net form g holds mine) where
+  pub writes_group : {old new : Option (List ℕ)}
+      → Adds old new (texts_of (map SDR (scans_of net holds mine))) → WritesGroup net form holds g old new
   writes_group {old} {new} w plans a =
-      subst (λ xs. Adds old new (texts_of (map SDR xs))) (plans_same net form g named mine plans holds m a.plans).0 w
+      subst (λ xs. Adds old new (texts_of (map SDR xs)))
+      (plans_same net form g named mine plans holds m a.plans).0 w
 
-  pub writes_part : {old new : Option (List ℕ)} → AddsPart old new (texts_of (map SDR (scans_of net holds mine))) → WritesGroupPart net form holds g old new
+  pub writes_part : {old new : Option (List ℕ)}
+      → AddsPart old new (texts_of (map SDR (scans_of net holds mine)))
+      → WritesGroupPart net form holds g old new
   writes_part {old} {new} w plans a =
-      subst (λ xs. AddsPart old new (texts_of (map SDR xs))) (plans_same net form g named mine plans holds m a.plans).0 w
+      subst (λ xs. AddsPart old new (texts_of (map SDR xs)))
+      (plans_same net form g named mine plans holds m a.plans).0 w
 
   pub is_after : {after : Holds} → after ≡ holds_after holds mine → IsAfterGroup net form holds g after
   is_after h plans a = h ∙ (plans_same net form g named mine plans holds m a.plans).1

@@ -33,22 +33,58 @@ module _ (net : Net) (form : Items) (g : SeenGroup) where
   module _ (holds : Holds) (c : CanOpen net form g holds) where
     select_bit : (b : BitId) → is_select net b ≡ true → IsBitOf net b
     select_bit b t =
-        let (m, l, a) = in_part (λ mux. mux.select.items) b net.muxes.items (selected b (select_bits net) t) in
+        let (m, l, a) = in_part (λ mux. mux.select.items) b net.muxes.items
+        (selected b (select_bits net) t) in
         select_there net m b c.well_formed l a
 
     -- the group itself
     group_scan : AreOnPath net (registers_of g) holds → CanScan net holds g
-    group_scan (path, e, on) =
-        (path, e, record { widths = c.listed.widths; writes = All-weaker (λ (x : WriteBit). IsDataBit net x.bit) (λ (x : WriteBit). IsBitOf net x.bit) (λ x d. d.there) g.writes c.group.written; reads = All-weaker (λ (x : ReadBit). IsDataBit net x.bit) (λ (x : ReadBit). IsBitOf net x.bit) (λ x d. d.there) g.reads c.group.read; written_once = c.group.written_once; read_once = c.group.read_once; on_path = on })
+    group_scan (path, e, on) = (
+      path,
+      e,
+      record {
+        widths = c.listed.widths;
+        writes = All-weaker
+            (λ (x : WriteBit). IsDataBit net x.bit) (λ (x : WriteBit). IsBitOf net x.bit) (λ x d. d.there)
+            g.writes c.group.written;
+        reads = All-weaker (λ (x : ReadBit). IsDataBit net x.bit)
+            (λ (x : ReadBit). IsBitOf net x.bit) (λ x d. d.there) g.reads c.group.read;
+        written_once = c.group.written_once;
+        read_once = c.group.read_once;
+        on_path = on;
+      },
+    )
 
     -- a plan that opens the way to it
-    opening_scan : (p : SeenGroup) → Settles net form g holds p → AreOnPath net (registers_of p) holds → CanScan net holds p
-    opening_scan p s (path, e, on) =
-        (path, e, record { widths = c.listed.widths; writes = all_among (λ (w : WriteBit). IsBitOf net w.bit) p.writes (λ w i. select_bit w.bit (among_all (λ w. IsTrue (is_select net w.bit)) w p.writes s.selects i)); reads = subst (All (λ (r : ReadBit). IsBitOf net r.bit)) (sym s.reads_nothing) (All-nil (λ (r : ReadBit). IsBitOf net r.bit)); written_once = s.once; read_once = subst (λ (rs : List ReadBit). AreDifferent (map (λ r. r.bit) rs)) (sym s.reads_nothing) tt; on_path = on })
+    opening_scan : (p : SeenGroup) → Settles net form g holds p
+        → AreOnPath net (registers_of p) holds → CanScan net holds p
+    opening_scan p s (path, e, on) = (
+      path,
+      e,
+      record {
+        widths = c.listed.widths;
+        writes = all_among (λ (w : WriteBit). IsBitOf net w.bit) p.writes
+            (λ w i. select_bit w.bit (among_all (λ w. IsTrue (is_select net w.bit)) w p.writes s.selects i));
+        reads = subst (All (λ (r : ReadBit). IsBitOf net r.bit)) (sym s.reads_nothing)
+            (All-nil (λ (r : ReadBit). IsBitOf net r.bit));
+        written_once = s.once;
+        read_once = subst (λ (rs : List ReadBit). AreDifferent (map (λ r. r.bit) rs))
+            (sym s.reads_nothing) tt;
+        on_path = on;
+      },
+    )
 
-  pub can_scan_all : (holds : Holds) (ps : List SeenGroup) → CanOpen net form g holds → ArePlans net form g holds ps → AreScans net holds ps → CanScanAll net holds ps
+  pub can_scan_all : (holds : Holds) (ps : List SeenGroup) → CanOpen net form g holds
+      → ArePlans net form g holds ps → AreScans net holds ps → CanScanAll net holds ps
   can_scan_all holds [] c a s = s
-  can_scan_all holds (p ∷ []) c a s =
-      (s.0.scannable, subst (CanScan net holds) (sym a.1) (group_scan holds c (subst (λ z. AreOnPath net (registers_of z) holds) a.1 s.0.named)), s.1)
-  can_scan_all holds (p ∷ (q ∷ ps)) c a s =
-      (s.0.scannable, opening_scan holds c p a.0 s.0.named, can_scan_all (write_all holds p.writes) (q ∷ ps) (can_go_on net form g holds c p a.0) a.1 s.1)
+  can_scan_all holds (p ∷ []) c a s = (
+    s.0.scannable,
+    subst (CanScan net holds) (sym a.1)
+        (group_scan holds c (subst (λ z. AreOnPath net (registers_of z) holds) a.1 s.0.named)),
+    s.1,
+  )
+  can_scan_all holds (p ∷ (q ∷ ps)) c a s = (
+    s.0.scannable,
+    opening_scan holds c p a.0 s.0.named,
+    can_scan_all (write_all holds p.writes) (q ∷ ps) (can_go_on net form g holds c p a.0) a.1 s.1,
+  )

@@ -9,10 +9,12 @@ use Rattle.net_graph.specs.SeenSteps.{SeenStep}
 use Rattle.net_tree.specs.Form.{Items}
 use Rattle.retargeter.specs.Scripts.{IsScript}
 
-module _ (net : Net) (form : Items) (device : Device) (steps : List SeenStep) (old new : Option Files) (name : List ℕ) where
+module _ (net : Net) (form : Items) (device : Device) (steps : List SeenStep)
+    (old new : Option Files) (name : List ℕ) where
   -- the file holds the text of the script of plans for the bit steps, whatever these plans are
   abbrev pub HoldsScript : Type 0
-  HoldsScript = (bytes : List ℕ) → IsScript net form device steps bytes → file_at new name ≡ option_map (λ _. Some bytes) old
+  HoldsScript = (bytes : List ℕ) → IsScript net form device steps bytes
+      → file_at new name ≡ option_map (λ _. Some bytes) old
 
   -- it is as before, or holds some first bytes of this text
   abbrev pub HoldsScriptPart : Type 0

@@ -10,4 +10,5 @@ use Rattle.scan_packer.specs.Packing.{CanScan}
 -- each over the path that the earlier ones have left, and more scans after them
 abbrev pub CanScanAll : Net → Holds → List SeenGroup → Type 0
 CanScanAll net holds [] = IsScannable net holds
-CanScanAll net holds (p ∷ ps) = IsScannable net holds × CanScan net holds p × CanScanAll net (write_all holds p.writes) ps
+CanScanAll net holds (p ∷ ps) = IsScannable net holds × CanScan net holds p
+    × CanScanAll net (write_all holds p.writes) ps

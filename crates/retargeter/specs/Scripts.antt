@@ -17,11 +17,13 @@ use Rattle.retargeter.specs.Session.{Session}
 module _ (s : Session) (steps : List SeenStep) where
   -- exactly their text is added
   abbrev pub WritesSteps : Option (List ℕ) → Option (List ℕ) → Type 0
-  WritesSteps old new = (xs : List PlannedStep) → AreStepsOf s.net s.form s.holds steps xs → Adds old new (steps_text s.device s.applies (script_of s.net s.holds xs))
+  WritesSteps old new = (xs : List PlannedStep) → AreStepsOf s.net s.form s.holds steps xs
+      → Adds old new (steps_text s.device s.applies (script_of s.net s.holds xs))
 
   -- some first bytes of their text are added
   abbrev pub WritesStepsPart : Option (List ℕ) → Option (List ℕ) → Type 0
-  WritesStepsPart old new = (xs : List PlannedStep) → AreStepsOf s.net s.form s.holds steps xs → AddsPart old new (steps_text s.device s.applies (script_of s.net s.holds xs))
+  WritesStepsPart old new = (xs : List PlannedStep) → AreStepsOf s.net s.form s.holds steps xs
+      → AddsPart old new (steps_text s.device s.applies (script_of s.net s.holds xs))
 
 -- ---- all bit steps of a procedure, from power-up on
 
@@ -32,7 +34,8 @@ pub record AreFew (steps : List SeenStep) : Type 0 where
   pub few_cycles : cycles_in steps ≤ 4000000
 
 -- these bytes are the text of the script of plans for the bit steps
-pub record IsScript (net : Net) (form : Items) (device : Device) (steps : List SeenStep) (bytes : List ℕ) : Type 0 where
+pub record IsScript (net : Net) (form : Items) (device : Device)
+    (steps : List SeenStep) (bytes : List ℕ) : Type 0 where
   pub plans : List PlannedStep
   pub planned : AreStepsOf net form (start_holds net) steps plans
   pub text : bytes ≡ script_text device (script_of net (start_holds net) plans)
@@ -52,4 +55,5 @@ module _ (net : Net) (form : Items) (device : Device) (steps : List SeenStep) wh
 
   -- such a text does the bit steps
   abbrev pub ScriptIsRight : Type 0
-  ScriptIsRight = (bytes : List ℕ) → IsScript net form device steps bytes → IsRetargeted net form device steps bytes
+  ScriptIsRight = (bytes : List ℕ) → IsScript net form device steps bytes
+      → IsRetargeted net form device steps bytes

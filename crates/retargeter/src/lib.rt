@@ -1,5 +1,5 @@
-//! Writes the SVF of a procedure's bit steps on any network, step by step (IEEE 1687-2014, PDL level 0; Serial Vector
-//! Format, revision E): to a sink, or to a file piece by piece.
+//! Writes the SVF of a procedure's bit steps on any network, step by step (IEEE 1687-2014, PDL level 0;
+//! Serial Vector Format, revision E): to a sink, or to a file piece by piece.
 #![tactic(auto)]
 
 mod buffers;

@@ -5,7 +5,8 @@ ghost use Rattle.net_graph.specs.Devices.{IsDevice};
 ghost use Rattle.pdl_targets.specs.Laws.{rounds_in};
 ghost use Rattle.headline.specs.Retargeting.{IsRetargetable};
 ghost use Rattle.headline.specs.Rounds.{StepIsPlannable};
-ghost use Rattle.retargeter.specs.Scripts.{AreFew, HasScript, WritesScript, WritesScriptPart, ScriptIsRight, WritesSteps, WritesStepsPart};
+ghost use Rattle.retargeter.specs.Scripts.{AreFew, HasScript, WritesScript, WritesScriptPart, ScriptIsRight};
+ghost use Rattle.retargeter.specs.Scripts.{WritesSteps, WritesStepsPart};
 
 use crate::retargeter::Retargeter;
 use headline::planned_steps_law;
@@ -26,7 +27,8 @@ fn put_steps<'a, 'b, K: Sink>(
     requires few_rounds { rounds_in steps.old.steps ≤ 4096 }
     requires few_steps { session.old.applies + length steps.old.steps < 2 ^ 32 }
     ensures whole { OnOk result (WritesSteps session.old steps.old.steps (K.taken k.old) (K.taken k.new)) }
-    ensures part { OnErr result (WritesStepsPart session.old steps.old.steps (K.taken k.old) (K.taken k.new)) }
+    ensures part { OnErr result
+        (WritesStepsPart session.old steps.old.steps (K.taken k.old) (K.taken k.new)) }
     ensures cause { HasCause (K.faults k.old) (K.faults k.new) result StoreFault.Failed }
 {
     while let Some(step) = next_step(steps)? {
@@ -48,8 +50,10 @@ fn put_script<'b, K: Sink>(
     requires device { IsDevice device.now }
     requires plannable { All (StepIsPlannable net.now tree.now) steps.old.steps }
     requires few { AreFew steps.old.steps }
-    ensures whole { OnOk result (WritesScript net.now tree.now device.now steps.old.steps (K.taken k.old) (K.taken k.new)) }
-    ensures part { OnErr result (WritesScriptPart net.now tree.now device.now steps.old.steps (K.taken k.old) (K.taken k.new)) }
+    ensures whole { OnOk result
+        (WritesScript net.now tree.now device.now steps.old.steps (K.taken k.old) (K.taken k.new)) }
+    ensures part { OnErr result
+        (WritesScriptPart net.now tree.now device.now steps.old.steps (K.taken k.old) (K.taken k.new)) }
     ensures cause { HasCause (K.faults k.old) (K.faults k.new) result StoreFault.Failed }
 {
     let mut session = Retargeter::new(alloc, net, tree, device)?;
@@ -58,12 +62,13 @@ fn put_script<'b, K: Sink>(
     Ok(())
 }
 
-/// Writes the SVF of a procedure's bit steps on a network (IEEE 1687-2014, PDL level 0; Serial Vector Format, revision E):
-/// five lines that bring the TAP controller to Run-Test/Idle and load the link's instruction, and then what
-/// [`Retargeter::put_step`] writes of each bit step. No bit step is kept.
+/// Writes the SVF of a procedure's bit steps on a network (IEEE 1687-2014, PDL level 0; Serial Vector Format,
+/// revision E): five lines that bring the TAP controller to Run-Test/Idle and load the link's instruction,
+/// and then what [`Retargeter::put_step`] writes of each bit step. No bit step is kept.
 ///
-/// The text is a function of the network, its nested form, the device and the bit steps. Played clock by clock from
-/// power-up, it does the bit steps, whatever the instruments do, and each round with as few scans as can be (`right`).
+/// The text is a function of the network, its nested form, the device and the bit steps. Played clock by
+/// clock from power-up, it does the bit steps, whatever the instruments do, and each round with as few scans
+/// as can be (`right`).
 ///
 /// # Errors
 ///
@@ -85,8 +90,10 @@ pub fn put_svf<'b, K: Sink>(
     requires plannable { All (StepIsPlannable net.now tree.now) steps.old.steps }
     requires few { AreFew steps.old.steps }
     ensures text { HasScript net.now tree.now device.now steps.old.steps }
-    ensures whole { OnOk result (WritesScript net.now tree.now device.now steps.old.steps (K.taken k.old) (K.taken k.new)) }
-    ensures part { OnErr result (WritesScriptPart net.now tree.now device.now steps.old.steps (K.taken k.old) (K.taken k.new)) }
+    ensures whole { OnOk result
+        (WritesScript net.now tree.now device.now steps.old.steps (K.taken k.old) (K.taken k.new)) }
+    ensures part { OnErr result
+        (WritesScriptPart net.now tree.now device.now steps.old.steps (K.taken k.old) (K.taken k.new)) }
     ensures cause { HasCause (K.faults k.old) (K.faults k.new) result StoreFault.Failed }
     ensures right { ScriptIsRight net.now tree.now device.now steps.old.steps }
 {

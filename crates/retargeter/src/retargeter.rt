@@ -22,11 +22,11 @@ use std::alloc::Global;
 use std::marker::Model;
 use svf_writer::{Command, put, put_reset};
 
-/// Writes the SVF of a procedure's bit steps on a network, one after the other (IEEE 1687-2014, PDL level 0: iApply,
-/// iRunLoop, iReset; Serial Vector Format, revision E).
+/// Writes the SVF of a procedure's bit steps on a network, one after the other (IEEE 1687-2014, PDL level 0:
+/// iApply, iRunLoop, iReset; Serial Vector Format, revision E).
 ///
-/// Contracts see the network, its nested form, the device, what the update stages hold before the next step, and how many
-/// iApplys were written.
+/// Contracts see the network, its nested form, the device, what the update stages hold before the next step,
+/// and how many iApplys were written.
 #[derive(Drop)]
 pub struct Retargeter<'a> {
     alloc: Global,
@@ -48,9 +48,21 @@ impl<'a> Model for Retargeter<'a> {
 
     ghost coded = { Prim.hlevel (codes, form_code) };
 
-    ghost view = { λ r. record { net = r.net.now; form = r.tree.now; device = r.device.now; holds = r.holds; applies = r.applies } };
+    ghost view = { λ r. record {
+      net = r.net.now;
+      form = r.tree.now;
+      device = r.device.now;
+      holds = r.holds;
+      applies = r.applies;
+    } };
 
-    ghost invariant = { λ r. IsReady (record { net = r.net.now; form = r.tree.now; device = r.device.now; holds = r.holds; applies = r.applies }) × HasScanRoom r.net.now r.buffers };
+    ghost invariant = { λ r. IsReady (record {
+      net = r.net.now;
+      form = r.tree.now;
+      device = r.device.now;
+      holds = r.holds;
+      applies = r.applies;
+    }) × HasScanRoom r.net.now r.buffers };
 }
 
 /// Writes a run of so many cycles.
@@ -64,8 +76,8 @@ fn put_run<K: Sink>(cycles: u32, k: &mut K) -> Result<(), StoreFault>
 }
 
 impl<'a> Retargeter<'a> {
-    /// At power-up, before the first step: every register bit holds its reset value, and 0 without one. It takes memory for
-    /// what the update stages hold and for the bits of one scan.
+    /// At power-up, before the first step: every register bit holds its reset value, and 0 without one. It
+    /// takes memory for what the update stages hold and for the bits of one scan.
     pub fn new(
         alloc: Global,
         net: &'a Net,
@@ -74,7 +86,13 @@ impl<'a> Retargeter<'a> {
     ) -> Result<Self, OutOfMemory>
         requires network { IsRetargetable net.now tree.now }
         requires device { IsDevice device.now }
-        ensures { IfOk result (λ r. r ≡ record { net = net.now; form = tree.now; device = device.now; holds = start_holds net.now; applies = 0 }) }
+        ensures { IfOk result (λ r. r ≡ record {
+          net = net.now;
+          form = tree.now;
+          device = device.now;
+          holds = start_holds net.now;
+          applies = 0;
+        }) }
     {
         Ok(Retargeter {
             alloc,
@@ -89,27 +107,31 @@ impl<'a> Retargeter<'a> {
 
     /// Writes a bit step.
     ///
-    /// - An iApply: for each of its rounds the comment `! apply K`, from the second round on `! apply K round J`, K counting
-    ///   the iApplys from 1; then the scans that open the way to the group's registers, as few as can be, and last the scan
-    ///   that writes and reads, with TDO and MASK where the group reads. Each scan is a line `SDR N TDI (h);` of the whole
-    ///   active path, position 0 (nearest TDO) in the rightmost digit.
+    /// - An iApply: for each of its rounds the comment `! apply K`, from the second round on
+    ///   `! apply K round J`, K counting the iApplys from 1; then the scans that open the way to the group's
+    ///   registers, as few as can be, and last the scan that writes and reads, with TDO and MASK where the
+    ///   group reads. Each scan is a line `SDR N TDI (h);` of the whole active path, position 0 (nearest TDO)
+    ///   in the rightmost digit.
     /// - A run: `RUNTEST N TCK;`.
-    /// - A reset: `STATE RESET;`, `STATE IDLE;` and the line that loads the link's instruction. Register bits with a reset
-    ///   value take it.
+    /// - A reset: `STATE RESET;`, `STATE IDLE;` and the line that loads the link's instruction. Register bits
+    ///   with a reset value take it.
     ///
     /// # Errors
     ///
     /// - `Failed`: the sink failed, and its count of faults rose.
     /// - `OutOfMemory`: there was no memory for the plans of a group, or the sink had none.
     ///
-    /// After a refusal the sink took some first bytes of the text, maybe none, and what the update stages hold isn't said.
+    /// After a refusal the sink took some first bytes of the text, maybe none, and what the update stages
+    /// hold isn't said.
     pub fn put_step<K: Sink>(&mut self, step: &BitStep, k: &mut K) -> Result<(), StoreFault>
         requires step { StepIsPlannable self.old.net self.old.form (seen_step step.now) }
         requires few_rounds { round_count (seen_step step.now) ≤ 4096 }
         requires count { self.old.applies + 1 < 2 ^ 32 }
         ensures plan { HasPlan self.old (seen_step step.now) }
-        ensures whole { OnOk result (WritesStep self.old (seen_step step.now) (K.taken k.old) (K.taken k.new)) }
-        ensures part { OnErr result (WritesStepPart self.old (seen_step step.now) (K.taken k.old) (K.taken k.new)) }
+        ensures whole { OnOk result
+            (WritesStep self.old (seen_step step.now) (K.taken k.old) (K.taken k.new)) }
+        ensures part { OnErr result
+            (WritesStepPart self.old (seen_step step.now) (K.taken k.old) (K.taken k.new)) }
         ensures cause { HasCause (K.faults k.old) (K.faults k.new) result StoreFault.Failed }
         ensures after { OnOk result (IsAfterStep self.old (seen_step step.now) self.new) }
     {
@@ -122,8 +144,10 @@ impl<'a> Retargeter<'a> {
         requires step { StepIsPlannable self.old.net self.old.form (seen_step step.now) }
         requires few_rounds { round_count (seen_step step.now) ≤ 4096 }
         requires count { self.old.applies + 1 < 2 ^ 32 }
-        ensures whole { OnOk result (WritesStep self.old (seen_step step.now) (K.taken k.old) (K.taken k.new)) }
-        ensures part { OnErr result (WritesStepPart self.old (seen_step step.now) (K.taken k.old) (K.taken k.new)) }
+        ensures whole { OnOk result
+            (WritesStep self.old (seen_step step.now) (K.taken k.old) (K.taken k.new)) }
+        ensures part { OnErr result
+            (WritesStepPart self.old (seen_step step.now) (K.taken k.old) (K.taken k.new)) }
         ensures cause { HasCause (K.faults k.old) (K.faults k.new) result StoreFault.Failed }
         ensures after { OnOk result (IsAfterStep self.old (seen_step step.now) self.new) }
     {
@@ -139,8 +163,10 @@ impl<'a> Retargeter<'a> {
         requires groups { All (IsPlannable self.old.net self.old.form) (map seen_group rounds.now) }
         requires few_rounds { length rounds.now ≤ 4096 }
         requires count { self.old.applies + 1 < 2 ^ 32 }
-        ensures whole { OnOk result (WritesStep self.old (Apply (map seen_group rounds.now)) (K.taken k.old) (K.taken k.new)) }
-        ensures part { OnErr result (WritesStepPart self.old (Apply (map seen_group rounds.now)) (K.taken k.old) (K.taken k.new)) }
+        ensures whole { OnOk result
+            (WritesStep self.old (Apply (map seen_group rounds.now)) (K.taken k.old) (K.taken k.new)) }
+        ensures part { OnErr result
+            (WritesStepPart self.old (Apply (map seen_group rounds.now)) (K.taken k.old) (K.taken k.new)) }
         ensures cause { HasCause (K.faults k.old) (K.faults k.new) result StoreFault.Failed }
         ensures after { OnOk result (IsAfterStep self.old (Apply (map seen_group rounds.now)) self.new) }
     {

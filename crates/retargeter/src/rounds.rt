@@ -7,7 +7,8 @@ ghost use Rattle.path_planner.specs.Scannable.{IsScannable};
 ghost use Rattle.headline.specs.Rounds.{IsPlannable};
 ghost use Rattle.headline.specs.Retargeting.{IsRetargetable};
 ghost use Rattle.retargeter.specs.Room.{HasScanRoom};
-ghost use Rattle.retargeter.specs.Writing.{front, WritesRound, WritesRoundPart, IsAfterGroup, WritesRounds, WritesRoundsPart, IsAfterRounds};
+ghost use Rattle.retargeter.specs.Writing.{front, WritesRound, WritesRoundPart, IsAfterGroup, WritesRounds};
+ghost use Rattle.retargeter.specs.Writing.{WritesRoundsPart, IsAfterRounds};
 
 use crate::buffers::Buffers;
 use crate::scans::put_group;
@@ -17,7 +18,8 @@ use net_tree::Tree;
 use std::alloc::Global;
 use svf_writer::{put_mark, put_round};
 
-/// Writes the comment before a round, by the numbers of its iApply and of the round, counted from 1. Takes no memory.
+/// Writes the comment before a round, by the numbers of its iApply and of the round, counted from 1. Takes no
+/// memory.
 fn put_front<K: Sink>(apply: u32, round: u32, k: &mut K) -> Result<(), StoreFault>
     requires some { 1 ≤ round }
     ensures whole { OnOk result (Adds (K.taken k.old) (K.taken k.new) (front apply round)) }
@@ -48,8 +50,10 @@ fn put_marked<K: Sink>(
     requires some { 1 ≤ round }
     requires group { IsPlannable net.now tree.now (seen_group group.now) }
     requires room { HasScanRoom net.now buffers.old }
-    ensures whole { OnOk result (WritesRound net.now tree.now holds.old apply round (seen_group group.now) (K.taken k.old) (K.taken k.new)) }
-    ensures part { OnErr result (WritesRoundPart net.now tree.now holds.old apply round (seen_group group.now) (K.taken k.old) (K.taken k.new)) }
+    ensures whole { OnOk result (WritesRound net.now tree.now holds.old apply round
+        (seen_group group.now) (K.taken k.old) (K.taken k.new)) }
+    ensures part { OnErr result (WritesRoundPart net.now tree.now holds.old apply round
+        (seen_group group.now) (K.taken k.old) (K.taken k.new)) }
     ensures cause { HasCause (K.faults k.old) (K.faults k.new) result StoreFault.Failed }
     ensures holds { OnOk result (IsAfterGroup net.now tree.now holds.old (seen_group group.now) holds.new) }
     ensures scannable { IsScannable net.now holds.new }
@@ -60,7 +64,8 @@ fn put_marked<K: Sink>(
     Ok(())
 }
 
-/// Writes the rounds of an iApply, by its number, counted from 1. After a refusal the update stages can still be scanned.
+/// Writes the rounds of an iApply, by its number, counted from 1. After a refusal the update stages can still
+/// be scanned.
 pub(crate) fn put_rounds<K: Sink>(
     alloc: Global,
     net: &Net,
@@ -76,10 +81,13 @@ pub(crate) fn put_rounds<K: Sink>(
     requires groups { All (IsPlannable net.now tree.now) (map seen_group rounds.now) }
     requires few { length rounds.now ≤ 4096 }
     requires room { HasScanRoom net.now buffers.old }
-    ensures whole { OnOk result (WritesRounds net.now tree.now holds.old apply (map seen_group rounds.now) (K.taken k.old) (K.taken k.new)) }
-    ensures part { OnErr result (WritesRoundsPart net.now tree.now holds.old apply (map seen_group rounds.now) (K.taken k.old) (K.taken k.new)) }
+    ensures whole { OnOk result (WritesRounds net.now tree.now holds.old apply
+        (map seen_group rounds.now) (K.taken k.old) (K.taken k.new)) }
+    ensures part { OnErr result (WritesRoundsPart net.now tree.now holds.old apply
+        (map seen_group rounds.now) (K.taken k.old) (K.taken k.new)) }
     ensures cause { HasCause (K.faults k.old) (K.faults k.new) result StoreFault.Failed }
-    ensures holds { OnOk result (IsAfterRounds net.now tree.now holds.old apply (map seen_group rounds.now) holds.new) }
+    ensures holds { OnOk result
+        (IsAfterRounds net.now tree.now holds.old apply (map seen_group rounds.now) holds.new) }
     ensures scannable { IsScannable net.now holds.new }
     ensures room { HasScanRoom net.now buffers.new }
 {

@@ -25,8 +25,10 @@ use svf_writer::put_list;
 /// Writes a scan that compares nothing.
 #[tactic(auto, unfolding(ij_io::specs::Words::words_text))]
 fn put_quiet<'a, K: Sink>(tdi: &'a Bits, k: &mut K) -> Result<(), StoreFault>
-    ensures whole { OnOk result (Adds (K.taken k.old) (K.taken k.new) (text_of (SDR (quiet_scan tdi.now.items)))) }
-    ensures part { OnErr result (AddsPart (K.taken k.old) (K.taken k.new) (text_of (SDR (quiet_scan tdi.now.items)))) }
+    ensures whole { OnOk result
+        (Adds (K.taken k.old) (K.taken k.new) (text_of (SDR (quiet_scan tdi.now.items)))) }
+    ensures part { OnErr result
+        (AddsPart (K.taken k.old) (K.taken k.new) (text_of (SDR (quiet_scan tdi.now.items)))) }
     ensures cause { HasCause (K.faults k.old) (K.faults k.new) result StoreFault.Failed }
 {
     put_words(k, &[Word::Text(b"SDR "), Word::Number(tdi.len() as u64)])?;
@@ -43,8 +45,10 @@ fn put_comparing<'a, K: Sink>(
     mask: &'a Bits,
     k: &mut K,
 ) -> Result<(), StoreFault>
-    ensures whole { OnOk result (Adds (K.taken k.old) (K.taken k.new) (text_of (SDR (comparing_scan tdi.now.items tdo.now.items mask.now.items)))) }
-    ensures part { OnErr result (AddsPart (K.taken k.old) (K.taken k.new) (text_of (SDR (comparing_scan tdi.now.items tdo.now.items mask.now.items)))) }
+    ensures whole { OnOk result (Adds (K.taken k.old) (K.taken k.new)
+        (text_of (SDR (comparing_scan tdi.now.items tdo.now.items mask.now.items)))) }
+    ensures part { OnErr result (AddsPart (K.taken k.old) (K.taken k.new)
+        (text_of (SDR (comparing_scan tdi.now.items tdo.now.items mask.now.items)))) }
     ensures cause { HasCause (K.faults k.old) (K.faults k.new) result StoreFault.Failed }
 {
     put_words(k, &[Word::Text(b"SDR "), Word::Number(tdi.len() as u64)])?;
@@ -69,8 +73,10 @@ pub(crate) fn put_plan<K: Sink>(
     requires scannable { IsScannable net.now holds.now }
     requires plan { CanScan net.now holds.now (seen_plan plan.now) }
     requires room { HasScanRoom net.now buffers.old }
-    ensures whole { OnOk result (Adds (K.taken k.old) (K.taken k.new) (text_of (SDR (scan_of net.now holds.now (route_of net.now holds.now) (seen_plan plan.now))))) }
-    ensures part { OnErr result (AddsPart (K.taken k.old) (K.taken k.new) (text_of (SDR (scan_of net.now holds.now (route_of net.now holds.now) (seen_plan plan.now))))) }
+    ensures whole { OnOk result (Adds (K.taken k.old) (K.taken k.new)
+        (text_of (SDR (scan_of net.now holds.now (route_of net.now holds.now) (seen_plan plan.now))))) }
+    ensures part { OnErr result (AddsPart (K.taken k.old) (K.taken k.new)
+        (text_of (SDR (scan_of net.now holds.now (route_of net.now holds.now) (seen_plan plan.now))))) }
     ensures cause { HasCause (K.faults k.old) (K.faults k.new) result StoreFault.Failed }
     ensures room { HasScanRoom net.now buffers.new }
 {

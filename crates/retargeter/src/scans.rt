@@ -24,8 +24,8 @@ use net_tree::{ScanPlan, Tree};
 use path_planner::{advance, plan_group};
 use std::alloc::Global;
 
-/// Writes the scans of plans, one after the other. Takes no memory. After each scan the update stages are those that it
-/// leaves, and so they are after a refusal.
+/// Writes the scans of plans, one after the other. Takes no memory. After each scan the update stages are
+/// those that it leaves, and so they are after a refusal.
 fn put_plans<K: Sink>(
     net: &Net,
     tree: &Tree,
@@ -38,8 +38,10 @@ fn put_plans<K: Sink>(
     requires tree { Describes net.now tree.now }
     requires plans { CanScanAll net.now holds.old (map seen_plan plans.now) }
     requires room { HasScanRoom net.now buffers.old }
-    ensures whole { OnOk result (Adds (K.taken k.old) (K.taken k.new) (texts_of (map SDR (scans_of net.now holds.old (map seen_plan plans.now))))) }
-    ensures part { OnErr result (AddsPart (K.taken k.old) (K.taken k.new) (texts_of (map SDR (scans_of net.now holds.old (map seen_plan plans.now))))) }
+    ensures whole { OnOk result (Adds (K.taken k.old) (K.taken k.new)
+        (texts_of (map SDR (scans_of net.now holds.old (map seen_plan plans.now))))) }
+    ensures part { OnErr result (AddsPart (K.taken k.old) (K.taken k.new)
+        (texts_of (map SDR (scans_of net.now holds.old (map seen_plan plans.now))))) }
     ensures cause { HasCause (K.faults k.old) (K.faults k.new) result StoreFault.Failed }
     ensures holds { OnOk result (holds.new ≡ holds_after holds.old (map seen_plan plans.now)) }
     ensures scannable { IsScannable net.now holds.new }
@@ -66,8 +68,10 @@ pub(crate) fn put_group<K: Sink>(
     requires scannable { IsScannable net.now holds.old }
     requires group { IsPlannable net.now tree.now (seen_group group.now) }
     requires room { HasScanRoom net.now buffers.old }
-    ensures whole { OnOk result (WritesGroup net.now tree.now holds.old (seen_group group.now) (K.taken k.old) (K.taken k.new)) }
-    ensures part { OnErr result (WritesGroupPart net.now tree.now holds.old (seen_group group.now) (K.taken k.old) (K.taken k.new)) }
+    ensures whole { OnOk result
+        (WritesGroup net.now tree.now holds.old (seen_group group.now) (K.taken k.old) (K.taken k.new)) }
+    ensures part { OnErr result
+        (WritesGroupPart net.now tree.now holds.old (seen_group group.now) (K.taken k.old) (K.taken k.new)) }
     ensures cause { HasCause (K.faults k.old) (K.faults k.new) result StoreFault.Failed }
     ensures holds { OnOk result (IsAfterGroup net.now tree.now holds.old (seen_group group.now) holds.new) }
     ensures scannable { IsScannable net.now holds.new }

@@ -9,10 +9,15 @@ use Rattle.retargeter.specs.Plans.{AreStepsOf, IsPlanOf}
 use Rattle.retargeter.proofs.Scripts.{first_planned, others_planned}
 
 module _ (net : Net) (form : Items) where
-  module _ (holds : Holds) (step : SeenStep) (steps : List SeenStep) (x : PlannedStep) (xs : List PlannedStep) (a : AreStepsOf net form holds (step ∷ steps) (x ∷ xs)) where
+  module _ (holds : Holds) (step : SeenStep) (steps : List SeenStep) (x : PlannedStep) (xs : List PlannedStep)
+      (a : AreStepsOf net form holds (step ∷ steps) (x ∷ xs)) where
     pub first_of : IsPlanOf net form holds step x
     first_of =
-        record { of_step = ap (λ zs. get_or zs 0 (seen_of x)) a.of_steps; planned = first_planned net form x xs holds a.planned }
+        record {
+          of_step = ap (λ zs. get_or zs 0 (seen_of x)) a.of_steps;
+          planned = first_planned net form x xs holds a.planned;
+        }
 
     pub others_of : AreStepsOf net form (holds_after_step net holds x) steps xs
-    others_of = record { of_steps = ap (drop 1) a.of_steps; planned = others_planned net form x xs holds a.planned }
+    others_of =
+        record { of_steps = ap (drop 1) a.of_steps; planned = others_planned net form x xs holds a.planned }

@@ -11,7 +11,8 @@ use Rattle.run_report.specs.Procedure.{CanRetarget}
 use Rattle.run_report.specs.Reaching.{IsCursor}
 use Rattle.run_report.specs.declared.cursor.Cursor.{Cursor}
 
-pub record AreAsked (procs : List Proc) (net : Net) (form : Items) (name : List ℕ) (cursor : Option Cursor) : Type 0 where
+pub record AreAsked (procs : List Proc) (net : Net) (form : Items)
+    (name : List ℕ) (cursor : Option Cursor) : Type 0 where
   pub distinct : AreDistinct (full_names (map seen_proc procs))
   pub few : length procs < 2 ^ 32
   pub can : CanRetarget net form (bit_steps (map seen_proc procs) net form name)

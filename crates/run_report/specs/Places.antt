@@ -1,6 +1,8 @@
--- In which scan, and at which position there, each read of a procedure is compared (IEEE 1687-2014, PDL level 0: iRead; Serial
--- Vector Format, revision E: TDO and MASK). Scans are counted from 1 over all scan commands, and position 0 is the first at TDO.
-use Rattle.std.specs.Prelude.{ℕ, suc, ◌+◌, ◌==◌, ◌&&◌, cond, List, [], ◌∷◌, ◌++◌, length, map, Option, Some, None}
+-- In which scan, and at which position there, each read of a procedure is compared (IEEE 1687-2014, PDL level
+-- 0: iRead; Serial Vector Format, revision E: TDO and MASK). Scans are counted from 1 over all scan commands,
+-- and position 0 is the first at TDO.
+use Rattle.std.specs.Prelude.{ℕ, suc, ◌+◌, ◌==◌, ◌&&◌, cond, List, [], ◌∷◌, ◌++◌, length, map, Option, Some}
+use Rattle.std.specs.Prelude.{None}
 use Rattle.net_graph.specs.declared.net.Net.{Net}
 use Rattle.net_graph.specs.declared.step.ReadBit.{ReadBit}
 use Rattle.net_graph.specs.Chain.{position}
@@ -30,7 +32,8 @@ plans_places net holds scans (p ∷ ps) =
 abbrev pub rounds_places : Net → Holds → ℕ → List PlannedGroup → List ReadPlace
 rounds_places net holds scans [] = []
 rounds_places net holds scans (p ∷ ps) =
-    plans_places net holds scans p.plans ++ rounds_places net (holds_after holds p.plans) (scans + length p.plans) ps
+    plans_places net holds scans p.plans
+    ++ rounds_places net (holds_after holds p.plans) (scans + length p.plans) ps
 
 abbrev pub scans_after_rounds : ℕ → List PlannedGroup → ℕ
 scans_after_rounds scans [] = scans
@@ -50,7 +53,8 @@ scans_after_step scans Resets = suc scans
 abbrev pub steps_places : Net → Holds → ℕ → List PlannedStep → List ReadPlace
 steps_places net holds scans [] = []
 steps_places net holds scans (x ∷ xs) =
-    step_places net holds scans x ++ steps_places net (holds_after_step net holds x) (scans_after_step scans x) xs
+    step_places net holds scans x
+    ++ steps_places net (holds_after_step net holds x) (scans_after_step scans x) xs
 
 -- the reads of all steps from power-up on, after the scan that loads the instruction
 abbrev pub places : Net → List PlannedStep → List ReadPlace

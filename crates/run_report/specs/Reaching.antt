@@ -23,22 +23,27 @@ pub record CanGoOn (net : Net) (form : Items) (c : Cursor) : Type 0 where
   pub scannable : IsScannable net c.holds
   pub room : HasRoom net c.route
 
--- of all planned steps these are left: from scan `first` on the reads are those that are noted and those of the rest, and after
--- `scans` scans those of the rest alone
-pub record Stands (net : Net) (form : Items) (left : List SeenStep) (holds : Holds) (first scans : ℕ) (noted : List ReadPlace) (all : List PlannedStep) : Type 0 where
+-- of all planned steps these are left: from scan `first` on the reads are those that are noted and those of
+-- the rest, and after `scans` scans those of the rest alone
+pub record Stands (net : Net) (form : Items) (left : List SeenStep) (holds : Holds) (first scans : ℕ)
+    (noted : List ReadPlace) (all : List PlannedStep) : Type 0 where
   pub rest : List PlannedStep
   pub is_left : AreStepsOf net form holds left rest
-  pub found : (scan bit : ℕ) → first ≤ scan → read_at (places net all) scan bit ≡ read_at (noted ++ steps_places net holds scans rest) scan bit
-  pub later : (scan bit : ℕ) → scans < scan → read_at (places net all) scan bit ≡ read_at (steps_places net holds scans rest) scan bit
+  pub found : (scan bit : ℕ) → first ≤ scan
+      → read_at (places net all) scan bit ≡ read_at (noted ++ steps_places net holds scans rest) scan bit
+  pub later : (scan bit : ℕ) → scans < scan
+      → read_at (places net all) scan bit ≡ read_at (steps_places net holds scans rest) scan bit
 
 -- whatever the plans are
 abbrev pub StandsIn : Net → Items → List SeenStep → Cursor → Type 0
 StandsIn net form steps c =
-    (all : List PlannedStep) → AreStepsOf net form (start_holds net) steps all → Stands net form c.steps.steps c.holds c.first c.scans c.places.items all
+    (all : List PlannedStep) → AreStepsOf net form (start_holds net) steps all
+    → Stands net form c.steps.steps c.holds c.first c.scans c.places.items all
 
 -- where one stands in a procedure, the other does
 abbrev pub StandsOn : Net → Items → Cursor → Cursor → Type 0
-StandsOn net form old new = (steps : List SeenStep) → StandsIn net form steps old → StandsIn net form steps new
+StandsOn net form old new = (steps : List SeenStep)
+    → StandsIn net form steps old → StandsIn net form steps new
 
 pub record IsCursor (net : Net) (form : Items) (steps : List SeenStep) (c : Cursor) : Type 0 where
   pub can : CanGoOn net form c

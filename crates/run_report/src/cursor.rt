@@ -1,5 +1,6 @@
 // How far the reads of a procedure are noted.
-ghost use Rattle.std.specs.Prelude.{◌≡◌, ◌⊎◌, ◌+◌, ◌*◌, ◌<◌, ◌≤◌, ◌^◌, [], None, length, map, IfOk, OnOk, true, false};
+ghost use Rattle.std.specs.Prelude.{◌≡◌, ◌⊎◌, ◌+◌, ◌*◌, ◌<◌, ◌≤◌, ◌^◌, [], None, length, map, IfOk, OnOk};
+ghost use Rattle.std.specs.Prelude.{true, false};
 ghost use Rattle.pdl_targets.specs.Laws.{round_count};
 ghost use Rattle.merge_order.specs.BitSteps.{bit_steps};
 ghost use Rattle.ij_text.specs.Numbering.{AreDistinct};
@@ -51,7 +52,8 @@ fn steps_of<'a>(
 ) -> Result<BitSteps<'a>, OutOfMemory>
     requires procs { AreDistinct (full_names (map seen_proc procs.now)) }
     requires few { length procs.now < 2 ^ 32 }
-    requires can { CanRetarget net.now tree.now (bit_steps (map seen_proc procs.now) net.now tree.now name.now) }
+    requires can { CanRetarget net.now tree.now
+        (bit_steps (map seen_proc procs.now) net.now tree.now name.now) }
     ensures { IfOk result (λ steps. steps ≡ bit_steps (map seen_proc procs.now) net.now tree.now name.now) }
 {
     BitSteps::new(alloc, procs, net, tree, name).map_err(|_| OutOfMemory)
@@ -68,8 +70,10 @@ impl<'a> Cursor<'a> {
     ) -> Result<Self, OutOfMemory>
         requires procs { AreDistinct (full_names (map seen_proc procs.now)) }
         requires few { length procs.now < 2 ^ 32 }
-        requires can { CanRetarget net.now tree.now (bit_steps (map seen_proc procs.now) net.now tree.now name.now) }
-        ensures cursor { IfOk result (IsCursor net.now tree.now (bit_steps (map seen_proc procs.now) net.now tree.now name.now).steps) }
+        requires can { CanRetarget net.now tree.now
+            (bit_steps (map seen_proc procs.now) net.now tree.now name.now) }
+        ensures cursor { IfOk result (IsCursor net.now tree.now
+            (bit_steps (map seen_proc procs.now) net.now tree.now name.now).steps) }
         ensures first { IfOk result (λ c. c.first ≡ 0) }
     {
         let holds = Holds::power_up(alloc, net)?;
@@ -92,7 +96,8 @@ impl<'a> Cursor<'a> {
         ensures can { OnOk result (CanGoOn net.now tree.now self.new) }
         ensures stands { OnOk result (StandsOn net.now tree.now self.old self.new) }
         ensures first { IfOk result (λ went. went ≡ true → self.new.first ≡ self.old.scans + 1) }
-        ensures fewer { IfOk result (λ went. went ≡ true → length self.new.steps.steps < length self.old.steps.steps) }
+        ensures fewer { IfOk result (λ went. went ≡ true
+            → length self.new.steps.steps < length self.old.steps.steps) }
         ensures end { IfOk result (λ went. went ≡ false → self.new.steps.steps ≡ []) }
         ensures stays { IfOk result (λ went. went ≡ false → self.new.first ≡ self.old.first) }
     {
@@ -120,10 +125,14 @@ impl<'a> Cursor<'a> {
         requires room { HasRoom net.now self.old.route }
         ensures steps { self.new.steps ≡ self.old.steps }
         ensures first { OnOk result (self.new.first ≡ self.old.scans + 1) }
-        ensures places { OnOk result (NotesStep net.now tree.now self.old.holds (seen_step step.now) self.old.scans [] self.new.places.items) }
-        ensures scans { OnOk result (ScansStep net.now tree.now self.old.holds (seen_step step.now) self.old.scans self.new.scans) }
-        ensures few { OnOk result (self.new.scans ≤ self.old.scans + 17 * round_count (seen_step step.now) + 1) }
-        ensures holds { OnOk result (HoldsStep net.now tree.now self.old.holds (seen_step step.now) self.new.holds) }
+        ensures places { OnOk result (NotesStep net.now tree.now self.old.holds
+            (seen_step step.now) self.old.scans [] self.new.places.items) }
+        ensures scans { OnOk result
+            (ScansStep net.now tree.now self.old.holds (seen_step step.now) self.old.scans self.new.scans) }
+        ensures few { OnOk result (self.new.scans
+            ≤ self.old.scans + 17 * round_count (seen_step step.now) + 1) }
+        ensures holds { OnOk result
+            (HoldsStep net.now tree.now self.old.holds (seen_step step.now) self.new.holds) }
         ensures scannable { OnOk result (IsScannable net.now self.new.holds) }
         ensures room { OnOk result (HasRoom net.now self.new.route) }
     {

@@ -1,7 +1,8 @@
-//! Prints a run of a procedure: the play of its SVF on the bench, in which each compare that differs names its iRead.
+//! Prints a run of a procedure: the play of its SVF on the bench, in which each compare that differs names
+//! its iRead.
 //!
-//! Which iRead each compare is follows from its scan and its position in the scan (IEEE 1687-2014, PDL level 0: iRead;
-//! Serial Vector Format, revision E).
+//! Which iRead each compare is follows from its scan and its position in the scan (IEEE 1687-2014, PDL level
+//! 0: iRead; Serial Vector Format, revision E).
 #![tactic(auto)]
 
 mod cursor;

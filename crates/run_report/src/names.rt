@@ -17,10 +17,11 @@ use pdl_parser::Proc;
 use std::alloc::Global;
 use std::marker::Model;
 
-/// The iReads of a procedure by the scan and the position at which its SVF compares them (IEEE 1687-2014, PDL level 0: iRead).
+/// The iReads of a procedure by the scan and the position at which its SVF compares them (IEEE 1687-2014, PDL
+/// level 0: iRead).
 ///
-/// Nothing is looked at before it is asked for, and only the reads of one bit step are kept. Contracts see the network, its nested form
-/// and the bit steps of the procedure.
+/// Nothing is looked at before it is asked for, and only the reads of one bit step are kept. Contracts see
+/// the network, its nested form and the bit steps of the procedure.
 #[derive(Drop)]
 pub struct ReadPlaces<'a> {
     alloc: Global,
@@ -44,7 +45,12 @@ impl<'a> Model for ReadPlaces<'a> {
 
     ghost coded = { Prim.hlevel (codes, form_code) };
 
-    ghost view = { λ r. record { net = r.net.now; form = r.tree.now; steps = (bit_steps (map seen_proc r.procs.now) r.net.now r.tree.now r.name.now).steps } };
+    ghost view = { λ r. record {
+      net = r.net.now;
+      form = r.tree.now;
+      steps =
+          (bit_steps (map seen_proc r.procs.now) r.net.now r.tree.now r.name.now).steps;
+    } };
 
     ghost invariant = { λ r. AreAsked r.procs.now r.net.now r.tree.now r.name.now r.cursor };
 }
@@ -61,9 +67,12 @@ fn cursor_for<'a>(
 ) -> Result<Cursor<'a>, OutOfMemory>
     requires procs { AreDistinct (full_names (map seen_proc procs.now)) }
     requires few { length procs.now < 2 ^ 32 }
-    requires can { CanRetarget net.now tree.now (bit_steps (map seen_proc procs.now) net.now tree.now name.now) }
-    requires cursor { IfSome cursor (IsCursor net.now tree.now (bit_steps (map seen_proc procs.now) net.now tree.now name.now).steps) }
-    ensures cursor { IfOk result (IsCursor net.now tree.now (bit_steps (map seen_proc procs.now) net.now tree.now name.now).steps) }
+    requires can { CanRetarget net.now tree.now
+        (bit_steps (map seen_proc procs.now) net.now tree.now name.now) }
+    requires cursor { IfSome cursor
+        (IsCursor net.now tree.now (bit_steps (map seen_proc procs.now) net.now tree.now name.now).steps) }
+    ensures cursor { IfOk result
+        (IsCursor net.now tree.now (bit_steps (map seen_proc procs.now) net.now tree.now name.now).steps) }
     ensures first { IfOk result (λ c. c.first ≤ scan) }
 {
     if let Some(cursor) = cursor {
@@ -86,8 +95,14 @@ impl<'a> ReadPlaces<'a> {
     ) -> Self
         requires procs { AreDistinct (full_names (map seen_proc procs.now)) }
         requires few { length procs.now < 2 ^ 32 }
-        requires can { CanRetarget net.now tree.now (bit_steps (map seen_proc procs.now) net.now tree.now name.now) }
-        ensures { result ≡ record { net = net.now; form = tree.now; steps = (bit_steps (map seen_proc procs.now) net.now tree.now name.now).steps } }
+        requires can { CanRetarget net.now tree.now
+            (bit_steps (map seen_proc procs.now) net.now tree.now name.now) }
+        ensures { result ≡ record {
+          net = net.now;
+          form = tree.now;
+          steps =
+              (bit_steps (map seen_proc procs.now) net.now tree.now name.now).steps;
+        } }
     {
         ReadPlaces {
             alloc,
@@ -104,7 +119,8 @@ impl<'a> ReadNames for ReadPlaces<'a> {
     ghost AreNames = { λ p names. AreReadNames p names };
 
     fn read_at(&mut self, scan: u32, bit: u32) -> Result<Option<ReadBit>, OutOfMemory>
-        ensures found { IfOk result (λ read. (names : Names) → AreReadNames self.old names → read ≡ names scan bit) }
+        ensures found { IfOk result (λ read. (names : Names)
+            → AreReadNames self.old names → read ≡ names scan bit) }
         ensures same { (names : Names) → AreReadNames self.old names → AreReadNames self.new names }
         ensures stays { self.new ≡ self.old }
     {

@@ -41,7 +41,8 @@ pub(crate) fn note_reads(
     requires there { All (λ r. r < length net.now.regs.items) path.now }
     requires bits { All (λ r. IsBitOf net.now r.bit) reads.now }
     requires short { length (chain (reverse path.now) (zero_holds net.now)) < 2 ^ 32 }
-    ensures { OnOk result (places.new.items ≡ places.old.items ++ map (place_on net.now (reverse path.now) scan) reads.now) }
+    ensures { OnOk result (places.new.items
+        ≡ places.old.items ++ map (place_on net.now (reverse path.now) scan) reads.now) }
 {
     for read in reads {
         places.push(ReadPlace {

@@ -24,14 +24,15 @@ use pdl_parser::Proc;
 use std::alloc::Global;
 use svf_writer::Commands;
 
-/// Plays commands from power-up on a device with a scan network and its instruments, and prints the report of the play, in which each
-/// compare that differs names the iRead of a procedure that stands at its scan and position (Serial Vector Format, revision E;
-/// IEEE 1687-2014, PDL level 0). `models` has a model for each instrument, in the network's order. Answers how many compares differ.
+/// Plays commands from power-up on a device with a scan network and its instruments, and prints the report of
+/// the play, in which each compare that differs names the iRead of a procedure that stands at its scan and
+/// position (Serial Vector Format, revision E; IEEE 1687-2014, PDL level 0). `models` has a model for each
+/// instrument, in the network's order. Answers how many compares differ.
 ///
 /// # Errors
 ///
-/// Those of the sink, which then took some first bytes of the report, and `OutOfMemory` where there is no memory for the bench or to find
-/// an iRead.
+/// Those of the sink, which then took some first bytes of the report, and `OutOfMemory` where there is no
+/// memory for the bench or to find an iRead.
 pub fn put_run<K: Sink>(
     alloc: Global,
     procs: &[Proc],
@@ -45,13 +46,19 @@ pub fn put_run<K: Sink>(
 ) -> Result<u64, StoreFault>
     requires procs { AreDistinct (full_names (map seen_proc procs.now)) }
     requires few { length procs.now < 2 ^ 32 }
-    requires can { CanRetarget net.now tree.now (bit_steps (map seen_proc procs.now) net.now tree.now name.now) }
+    requires can { CanRetarget net.now tree.now
+        (bit_steps (map seen_proc procs.now) net.now tree.now name.now) }
     requires models { AreModels net.now models.now.items }
     requires clocks { length (pins InReset 0 commands.now) ≤ 1000000000 }
     requires scans { scans_in commands.now ≤ 1000000000 }
-    ensures whole { OnOk result (WritesReport net.now tree.now device.now (map seen_model models.now.items) (bit_steps (map seen_proc procs.now) net.now tree.now name.now).steps commands.now (K.taken k.old) (K.taken k.new)) }
-    ensures differs { IfOk result (λ n. n ≡ length (differs_of net.now device.now (map seen_model models.now.items) commands.now)) }
-    ensures part { OnErr result (WritesReportPart net.now tree.now device.now (map seen_model models.now.items) (bit_steps (map seen_proc procs.now) net.now tree.now name.now).steps commands.now (K.taken k.old) (K.taken k.new)) }
+    ensures whole { OnOk result (WritesReport net.now tree.now device.now (map seen_model models.now.items)
+        (bit_steps (map seen_proc procs.now) net.now tree.now name.now).steps commands.now
+        (K.taken k.old) (K.taken k.new)) }
+    ensures differs { IfOk result
+        (λ n. n ≡ length (differs_of net.now device.now (map seen_model models.now.items) commands.now)) }
+    ensures part { OnErr result (WritesReportPart net.now tree.now device.now
+        (map seen_model models.now.items) (bit_steps (map seen_proc procs.now) net.now tree.now
+        name.now).steps commands.now (K.taken k.old) (K.taken k.new)) }
     ensures cause { HasCause (K.faults k.old) (K.faults k.new) result StoreFault.Failed }
 {
     let mut reads = ReadPlaces::new(alloc, procs, net, tree, name);

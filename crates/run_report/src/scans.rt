@@ -14,7 +14,8 @@ ghost use Rattle.headline.specs.Scans.{holds_after};
 ghost use Rattle.retargeter.specs.Scanning.{CanScanAll};
 ghost use Rattle.retargeter.specs.Writing.{IsAfterGroup};
 ghost use Rattle.run_report.specs.Places.{plans_places, scan_places};
-ghost use Rattle.run_report.specs.Noting.{NotesGroup, ScansGroup, NotesRounds, ScansRounds, HoldsRounds, NotesStep, ScansStep, HoldsStep};
+ghost use Rattle.run_report.specs.Noting.{NotesGroup, ScansGroup, NotesRounds, ScansRounds, HoldsRounds};
+ghost use Rattle.run_report.specs.Noting.{NotesStep, ScansStep, HoldsStep};
 
 use crate::place::{ReadPlace, note_reads};
 use ij_bits::{List, OutOfMemory};
@@ -38,7 +39,8 @@ fn note_plan(
     requires scannable { IsScannable net.now holds.now }
     requires plan { CanScan net.now holds.now (seen_plan plan.now) }
     requires room { HasRoom net.now route.old }
-    ensures places { OnOk result (places.new.items ≡ places.old.items ++ scan_places net.now holds.now scan plan.now.reads.items) }
+    ensures places { OnOk result
+        (places.new.items ≡ places.old.items ++ scan_places net.now holds.now scan plan.now.reads.items) }
     ensures room { HasRoom net.now route.new }
 {
     tree.walk(net, holds, route);
@@ -62,7 +64,8 @@ fn note_plans(
     requires plans { CanScanAll net.now holds.old (map seen_plan plans.now) }
     requires few { scans + length plans.now < 2 ^ 32 }
     requires room { HasRoom net.now route.old }
-    ensures places { OnOk result (places.new.items ≡ places.old.items ++ plans_places net.now holds.old scans (map seen_plan plans.now)) }
+    ensures places { OnOk result (places.new.items
+        ≡ places.old.items ++ plans_places net.now holds.old scans (map seen_plan plans.now)) }
     ensures holds { OnOk result (holds.new ≡ holds_after holds.old (map seen_plan plans.now)) }
     ensures scannable { OnOk result (IsScannable net.now holds.new) }
     ensures room { HasRoom net.now route.new }
@@ -92,7 +95,8 @@ fn note_group(
     requires group { IsPlannable net.now tree.now (seen_group group.now) }
     requires few { scans + 17 < 2 ^ 32 }
     requires room { HasRoom net.now route.old }
-    ensures places { OnOk result (NotesGroup net.now tree.now holds.old (seen_group group.now) scans places.old.items places.new.items) }
+    ensures places { OnOk result (NotesGroup net.now tree.now holds.old
+        (seen_group group.now) scans places.old.items places.new.items) }
     ensures scans { IfOk result (ScansGroup net.now tree.now holds.old (seen_group group.now)) }
     ensures few { IfOk result (λ n. n ≤ 17) }
     ensures holds { OnOk result (IsAfterGroup net.now tree.now holds.old (seen_group group.now) holds.new) }
@@ -120,10 +124,12 @@ fn note_rounds(
     requires groups { All (IsPlannable net.now tree.now) (map seen_group rounds.now) }
     requires few { scans + 17 * length rounds.now < 2 ^ 32 }
     requires room { HasRoom net.now route.old }
-    ensures places { OnOk result (NotesRounds net.now tree.now holds.old (map seen_group rounds.now) scans places.old.items places.new.items) }
+    ensures places { OnOk result (NotesRounds net.now tree.now holds.old
+        (map seen_group rounds.now) scans places.old.items places.new.items) }
     ensures scans { IfOk result (ScansRounds net.now tree.now holds.old (map seen_group rounds.now) scans) }
     ensures few { IfOk result (λ n. n ≤ scans + 17 * length rounds.now) }
-    ensures holds { OnOk result (HoldsRounds net.now tree.now holds.old (map seen_group rounds.now) holds.new) }
+    ensures holds { OnOk result
+        (HoldsRounds net.now tree.now holds.old (map seen_group rounds.now) holds.new) }
     ensures scannable { OnOk result (IsScannable net.now holds.new) }
     ensures room { HasRoom net.now route.new }
 {
@@ -134,7 +140,8 @@ fn note_rounds(
     Ok(now)
 }
 
-/// Notes the reads of a bit step after so many scans; answers how many scans there are then. A reset loads the instruction in one.
+/// Notes the reads of a bit step after so many scans; answers how many scans there are then. A reset loads
+/// the instruction in one.
 pub(crate) fn note_step(
     alloc: Global,
     net: &Net,
@@ -150,7 +157,8 @@ pub(crate) fn note_step(
     requires step { StepIsPlannable net.now tree.now (seen_step step.now) }
     requires few { scans + 17 * round_count (seen_step step.now) + 1 < 2 ^ 32 }
     requires room { HasRoom net.now route.old }
-    ensures places { OnOk result (NotesStep net.now tree.now holds.old (seen_step step.now) scans places.old.items places.new.items) }
+    ensures places { OnOk result
+        (NotesStep net.now tree.now holds.old (seen_step step.now) scans places.old.items places.new.items) }
     ensures scans { IfOk result (ScansStep net.now tree.now holds.old (seen_step step.now) scans) }
     ensures few { IfOk result (λ n. n ≤ scans + 17 * round_count (seen_step step.now) + 1) }
     ensures holds { OnOk result (HoldsStep net.now tree.now holds.old (seen_step step.now) holds.new) }

@@ -100,8 +100,8 @@ fn fill_planned(net: &Net, _holds: &Holds, path: &HeldPath, plan: &ScanPlan, tdi
     );
 }
 
-/// Leaves the bits of a plan's flush in three lists, as [`pack_flush`](crate::pack_flush) does, by the active path of what the
-/// update stages hold. The room of the lists stays. Takes no memory.
+/// Leaves the bits of a plan's flush in three lists, as [`pack_flush`](crate::pack_flush) does, by the active
+/// path of what the update stages hold. The room of the lists stays. Takes no memory.
 pub fn pack_flush_on(
     net: &Net,
     _holds: &Holds,
@@ -117,7 +117,8 @@ pub fn pack_flush_on(
     requires tdi_room { HasFlushRoom net.now tdi.old }
     requires tdo_room { HasFlushRoom net.now tdo.old }
     requires mask_room { HasFlushRoom net.now mask.old }
-    ensures tdi { tdi.new.items ≡ flush_tdi net.now _holds.now (reverse path.now.route.items) (seen_plan plan.now) }
+    ensures tdi { tdi.new.items
+        ≡ flush_tdi net.now _holds.now (reverse path.now.route.items) (seen_plan plan.now) }
     ensures tdo { tdo.new.items ≡ flush_tdo net.now _holds.now (reverse path.now.route.items) }
     ensures mask { mask.new.items ≡ flush_mask net.now _holds.now (reverse path.now.route.items) }
     ensures tdi_room { length tdi.new.items + tdi.new.spare ≡ length tdi.old.items + tdi.old.spare }

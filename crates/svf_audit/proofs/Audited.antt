@@ -23,6 +23,27 @@ audited_plays_do_all net device machines steps commands readings w u v valid fit
     let d = direct_power_up whole_log net machines in
     let h = is_shaped_first chip in
     let z = zero_holds net in
-    let begins : Follows whole_log net device machines n u v goal (start net device steps) (power_up chip) [] = record { tap = refl; shaped = h; linked = reset_unlinked device v; holds = refl; stays = λ r. reset_twice net z; known = []; meaning = d; along = record { agrees = record { holds = λ b q. refl; insts = refl }; widths = h.holds; valid = steps_work net steps valid; ends = steps_worked whole_log net machines steps d; reads = refl }; reads = refl; compared = λ c. (λ m. m, λ m. m) } in
-    let ends = all_follow whole_log net device machines n u v goal commands (start net device steps) (power_up chip) [] None None readings (λ m q. absurd (true≢false (sym (ap is_some q)))) (λ m q. absurd (true≢false (sym (ap is_some q)))) fit begins e in
+    let begins : Follows whole_log net device machines n u v goal (start net device steps) (power_up chip)
+    [] = record {
+      tap = refl;
+      shaped = h;
+      linked = reset_unlinked device v;
+      holds = refl;
+      stays = λ r. reset_twice net z;
+      known = [];
+      meaning = d;
+      along = record {
+        agrees = record { holds = λ b q. refl; insts = refl };
+        widths = h.holds;
+        valid =
+            steps_work net steps valid;
+        ends = steps_worked whole_log net machines steps d;
+        reads = refl;
+      };
+      reads = refl;
+      compared = λ c. (λ m. m, λ m. m);
+    } in
+    let ends = all_follow whole_log net device machines n u v goal commands (start net device steps)
+    (power_up chip) [] None None readings (λ m q. absurd (true≢false (sym (ap is_some q))))
+    (λ m q. absurd (true≢false (sym (ap is_some q)))) fit begins e in
     record { last = ends.agrees; reads = ends.reads; compares = ends.compares }

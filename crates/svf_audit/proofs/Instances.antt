@@ -1,4 +1,5 @@
--- The premises of the laws can be met together: on a register of four bits a write and a read of it, audited and played.
+-- The premises of the laws can be met together: on a register of four bits a write and a read of it, audited
+-- and played.
 use Rattle.std.proofs.Common.{◌≡◌, true, List, [], ◌∷◌, Some, None, refl, arith}
 use Rattle.std.specs.Prelude.{All}
 use Rattle.std.proofs.lemmas.List.Elements.{All-nil, All-cons}
@@ -25,7 +26,12 @@ dev = record { ir = 8; idcode = None; link = full []; instr = full []; opcode = 
 
 dev_is_device : IsDevice dev
 dev_is_device =
-    record { two_bits = omega arith; bits_within_limit = omega arith; link = record { fits = omega arith; not_bypass = λ e. omega (arith, e) }; identity = tt }
+    record {
+      two_bits = omega arith;
+      bits_within_limit = omega arith;
+      link = record { fits = omega arith; not_bypass = λ e. omega (arith, e) };
+      identity = tt;
+    }
 
 -- iWrite of 1 to bit 0, iApply, iRunLoop 3, iRead of 1 from bit 0, iApply
 abbrev write1 : WriteBit
@@ -63,7 +69,8 @@ says_yes = refl
 writes_valid : IsGroup (plain_net 4) writes
 writes_valid =
     record {
-      written = All-cons (λ w. IsDataBit (plain_net 4) w.bit) write1 [] (record { there = omega arith; data_bit = refl }) (All-nil (λ w. IsDataBit (plain_net 4) w.bit));
+      written = All-cons (λ w. IsDataBit (plain_net 4) w.bit) write1 []
+          (record { there = omega arith; data_bit = refl }) (All-nil (λ w. IsDataBit (plain_net 4) w.bit));
       written_once = (λ c. omega (arith, c.1), tt);
       read = All-nil (λ r. IsDataBit (plain_net 4) r.bit);
       read_once = tt;
@@ -75,17 +82,34 @@ reads_valid =
     record {
       written = All-nil (λ w. IsDataBit (plain_net 4) w.bit);
       written_once = tt;
-      read = All-cons (λ r. IsDataBit (plain_net 4) r.bit) read1 [] (record { there = omega arith; data_bit = refl }) (All-nil (λ r. IsDataBit (plain_net 4) r.bit));
+      read = All-cons (λ r. IsDataBit (plain_net 4) r.bit) read1 []
+          (record { there = omega arith; data_bit = refl }) (All-nil (λ r. IsDataBit (plain_net 4) r.bit));
       read_once = (λ c. omega (arith, c.1), tt);
-      captured = All-cons (λ r. IsReadable (plain_net 4) (capture_signal (plain_net 4) r.bit)) read1 [] refl (All-nil (λ r. IsReadable (plain_net 4) (capture_signal (plain_net 4) r.bit)));
+      captured = All-cons (λ r. IsReadable (plain_net 4) (capture_signal (plain_net 4) r.bit)) read1 [] refl
+          (All-nil (λ r. IsReadable (plain_net 4) (capture_signal (plain_net 4) r.bit)));
     }
 
 steps_valid : All (IsStep (plain_net 4)) steps
 steps_valid =
-    let group : (g : SeenGroup) → IsGroup (plain_net 4) g → IsStep (plain_net 4) (Apply (g ∷ [])) = λ g v. (omega arith, All-cons (IsGroup (plain_net 4)) g [] v (All-nil (IsGroup (plain_net 4)))) in
-    All-cons (IsStep (plain_net 4)) (Apply (writes ∷ [])) (RunStep 3 ∷ Apply (reads ∷ []) ∷ []) (group writes writes_valid) (All-cons (IsStep (plain_net 4)) (RunStep 3) (Apply (reads ∷ []) ∷ []) (omega arith) (All-cons (IsStep (plain_net 4)) (Apply (reads ∷ [])) [] (group reads reads_valid) (All-nil (IsStep (plain_net 4)))))
+    let group : (g : SeenGroup) → IsGroup (plain_net 4) g → IsStep (plain_net 4) (Apply (g ∷ [])) =
+    λ g v. (omega arith, All-cons (IsGroup (plain_net 4)) g [] v (All-nil (IsGroup (plain_net 4)))) in
+    All-cons (IsStep (plain_net 4)) (Apply (writes ∷ [])) (RunStep 3 ∷ Apply (reads ∷ []) ∷ [])
+    (group writes writes_valid) (All-cons (IsStep (plain_net 4)) (RunStep 3) (Apply (reads ∷ []) ∷ [])
+    (omega arith) (All-cons (IsStep (plain_net 4)) (Apply (reads ∷ [])) []
+    (group reads reads_valid) (All-nil (IsStep (plain_net 4)))))
 
 -- so it does what the steps mean
 foreign_does_all : DoesAll (fault_free whole_log (plain_net 4) dev []) steps commands readings
 foreign_does_all =
-    audited_plays_do_all (plain_net 4) dev [] steps commands readings (plain_net_is_net 4 (omega arith) (omega arith)) (All-nil _) dev_is_device steps_valid (record { some = omega arith; tdi = refl; tdo = tt; mask = tt; smask = tt; taken = tt }, (record { some = omega arith; tdi = refl; tdo = tt; mask = tt; smask = tt; taken = tt }, (record { some = omega arith; tdi = tt; tdo = refl; mask = refl; smask = tt; taken = refl }, tt))) says_yes
+    audited_plays_do_all (plain_net 4) dev [] steps commands readings
+    (plain_net_is_net 4 (omega arith) (omega arith)) (All-nil _) dev_is_device steps_valid (
+      record { some = omega arith; tdi = refl; tdo = tt; mask = tt; smask = tt; taken = tt },
+      (
+        record { some = omega arith; tdi = refl; tdo = tt; mask = tt; smask = tt; taken = tt },
+        (
+          record
+              { some = omega arith; tdi = tt; tdo = refl; mask = refl; smask = tt; taken = refl },
+          tt,
+        ),
+      ),
+    ) says_yes

@@ -12,7 +12,8 @@ use Rattle.net_graph.specs.Signals.{Holds}
 use Rattle.svf_writer.specs.SeenCommands.{SeenScan}
 use Rattle.tap_machine.specs.declared.Stable.TheVariants.{Reset as InReset, Idle}
 use Rattle.tap_machine.specs.Play.{after_scan, is_empty, played}
-use Rattle.svf_audit.specs.Audit.{Reading, State, bits_on, changed, compares, do_group, has_row, scan, scanned, was_reset}
+use Rattle.svf_audit.specs.Audit.{Reading, State, bits_on, changed, compares, do_group, has_row, scan}
+use Rattle.svf_audit.specs.Audit.{scanned, was_reset}
 use Rattle.svf_audit.specs.Auditing.{act, ok, state_of, Step, Stops}
 use Rattle.svf_audit.specs.Kept.{seen_kept}
 use Rattle.svf_audit.specs.Left.{work_left}
@@ -33,12 +34,16 @@ not_or true b t e = ap not e
 not_or false b t e = ap not e
 
 module _ (r : Registers) (s : AreShifted r) where
-  pub changed_as : changed r.net.now (path_in r) r.holds r.after ≡ filter (λ b. not (is_select r.net.now b)) r.moved.items
+  pub changed_as : changed r.net.now (path_in r) r.holds r.after
+      ≡ filter (λ b. not (is_select r.net.now b)) r.moved.items
   changed_as =
-      filter_both (λ b. not (is_select r.net.now b)) (differs r.holds r.after) (bits_on r.holds (path_in r)) ∙ ap (filter (λ b. not (is_select r.net.now b))) (sym s.moved)
+      filter_both (λ b. not (is_select r.net.now b)) (differs r.holds r.after) (bits_on r.holds (path_in r))
+      ∙ ap (filter (λ b. not (is_select r.net.now b))) (sym s.moved)
 
   -- whether nothing is done
-  pub silent_as : (acts some compared : Bool) → some ≡ compared → acts ≡ (list_any (λ b. not (is_select r.net.now b)) r.moved.items || some) → (is_empty (changed r.net.now (path_in r) r.holds r.after) && not compared) ≡ not acts
+  pub silent_as : (acts some compared : Bool) → some ≡ compared
+      → acts ≡ (list_any (λ b. not (is_select r.net.now b)) r.moved.items || some)
+      → (is_empty (changed r.net.now (path_in r) r.holds r.after) && not compared) ≡ not acts
   silent_as acts some compared c e =
       let plain : BitId → Bool = λ b. not (is_select r.net.now b) in
       ap (λ bs. is_empty bs && not compared) changed_as
@@ -46,15 +51,26 @@ module _ (r : Registers) (s : AreShifted r) where
       ∙ ap (λ t. not (list_any plain r.moved.items) && not t) (sym c)
       ∙ not_or (list_any plain r.moved.items) some acts (sym e)
 
-pub act_silent : (net : Net) (device : Device) (a : State) (x : SeenScan) (now : Holds) → (is_empty (changed net (route_of net a.holds) a.holds now) && not (compares (played a.dr x))) ≡ true → act net device a x now ≡ ok (scanned net device a x now a.readings a.left)
+pub act_silent : (net : Net) (device : Device) (a : State) (x : SeenScan) (now : Holds)
+    → (is_empty (changed net (route_of net a.holds) a.holds now) && not (compares (played a.dr x))) ≡ true
+    → act net device a x now ≡ ok (scanned net device a x now a.readings a.left)
 act_silent net device a x now e =
-    ap (λ t. elim t [ true ↦ ok (scanned net device a x now a.readings a.left) | false ↦ do_group net device a x now ]) e
+    ap (λ t. elim t [
+      | true ↦ ok (scanned net device a x now a.readings a.left)
+      | false ↦ do_group net device a x now
+    ]) e
 
-pub act_does : (net : Net) (device : Device) (a : State) (x : SeenScan) (now : Holds) → (is_empty (changed net (route_of net a.holds) a.holds now) && not (compares (played a.dr x))) ≡ false → act net device a x now ≡ do_group net device a x now
+pub act_does : (net : Net) (device : Device) (a : State) (x : SeenScan) (now : Holds)
+    → (is_empty (changed net (route_of net a.holds) a.holds now) && not (compares (played a.dr x))) ≡ false
+    → act net device a x now ≡ do_group net device a x now
 act_does net device a x now e =
-    ap (λ t. elim t [ true ↦ ok (scanned net device a x now a.readings a.left) | false ↦ do_group net device a x now ]) e
+    ap (λ t. elim t [
+      | true ↦ ok (scanned net device a x now a.readings a.left)
+      | false ↦ do_group net device a x now
+    ]) e
 
-module _ (a : Auditor) (r : Registers) (x : SeenScan) (net : r.net.now ≡ a.registers.net.now) (holds : r.holds ≡ a.registers.holds) where
+module _ (a : Auditor) (r : Registers) (x : SeenScan) (net : r.net.now ≡ a.registers.net.now)
+    (holds : r.holds ≡ a.registers.holds) where
   abbrev path : List ℕ
   path = route_of a.registers.net.now a.registers.holds
 
@@ -66,7 +82,8 @@ module _ (a : Auditor) (r : Registers) (x : SeenScan) (net : r.net.now ≡ a.reg
 
   pub chain_as : length (chain (path_in r) r.holds) ≡ length (chain path a.registers.holds)
   chain_as =
-      ap (λ n. length (chain (route_of n r.holds) r.holds)) net ∙ ap (λ h. length (chain (route_of a.registers.net.now h) h)) holds
+      ap (λ n. length (chain (route_of n r.holds) r.holds)) net
+      ∙ ap (λ h. length (chain (route_of a.registers.net.now h) h)) holds
 
   pub after_as : AreShifted r → r.chain.items ≡ tdi → r.after ≡ after
   after_as s t =
@@ -75,21 +92,34 @@ module _ (a : Auditor) (r : Registers) (x : SeenScan) (net : r.net.now ≡ a.reg
       ∙ ap (λ h. put_chain (route_of a.registers.net.now h) r.chain.items h) holds
       ∙ ap (λ bits. put_chain path bits a.registers.holds) t
 
-  pub rows_as : r.after ≡ after → list_all (has_row r.after) r.net.now.muxes.items ≡ list_all (has_row after) a.registers.net.now.muxes.items
+  pub rows_as : r.after ≡ after → list_all (has_row r.after) r.net.now.muxes.items
+      ≡ list_all (has_row after) a.registers.net.now.muxes.items
   rows_as s =
-      ap (λ n. list_all (has_row r.after) n.muxes.items) net ∙ ap (λ h. list_all (has_row h) a.registers.net.now.muxes.items) s
+      ap (λ n. list_all (has_row r.after) n.muxes.items) net
+      ∙ ap (λ h. list_all (has_row h) a.registers.net.now.muxes.items) s
 
   -- what was done
-  pub act_as : (readings more : List Reading) (left : List Work) → r.after ≡ after → act r.net.now a.device.now (state_of (record a { registers = r }) readings) x r.after ≡ ok (scanned r.net.now a.device.now (state_of (record a { registers = r }) readings) x r.after more left) → act a.registers.net.now a.device.now (state_of a readings) x after ≡ ok (scanned a.registers.net.now a.device.now (state_of a readings) x after more left)
+  pub act_as : (readings more : List Reading) (left : List Work) → r.after ≡ after
+      → act r.net.now a.device.now (state_of (record a { registers = r }) readings) x r.after ≡ ok
+      (scanned r.net.now a.device.now (state_of (record a { registers = r }) readings) x r.after more left)
+      → act a.registers.net.now a.device.now (state_of a readings) x after
+      ≡ ok (scanned a.registers.net.now a.device.now (state_of a readings) x after more left)
   act_as readings more left s d =
-      let Done : Net → Holds → Holds → Type 0 = λ n h k. act n a.device.now (record (state_of a readings) { holds = h }) x k ≡ ok (scanned n a.device.now (record (state_of a readings) { holds = h }) x k more left) in
-      subst (Done a.registers.net.now a.registers.holds) s (subst (λ h. Done a.registers.net.now h r.after) holds (subst (λ n. Done n r.holds r.after) net d))
+      let Done : Net → Holds → Holds
+      → Type 0 = λ n h k. act n a.device.now (record (state_of a readings) { holds = h }) x k
+      ≡ ok (scanned n a.device.now (record (state_of a readings) { holds = h }) x k more left) in
+      subst (Done a.registers.net.now a.registers.holds) s
+      (subst (λ h. Done a.registers.net.now h r.after) holds (subst (λ n. Done n r.holds r.after) net d))
 
   -- why nothing was
-  pub act_fails : (readings : List Reading) (cause : Cause) → r.after ≡ after → act r.net.now a.device.now (state_of (record a { registers = r }) readings) x r.after ≡ Err cause → act a.registers.net.now a.device.now (state_of a readings) x after ≡ Err cause
+  pub act_fails : (readings : List Reading) (cause : Cause) → r.after ≡ after
+      → act r.net.now a.device.now (state_of (record a { registers = r }) readings) x r.after ≡ Err cause
+      → act a.registers.net.now a.device.now (state_of a readings) x after ≡ Err cause
   act_fails readings cause s d =
-      let Fails : Net → Holds → Holds → Type 0 = λ n h k. act n a.device.now (record (state_of a readings) { holds = h }) x k ≡ Err cause in
-      subst (Fails a.registers.net.now a.registers.holds) s (subst (λ h. Fails a.registers.net.now h r.after) holds (subst (λ n. Fails n r.holds r.after) net d))
+      let Fails : Net → Holds → Holds → Type 0 =
+      λ n h k. act n a.device.now (record (state_of a readings) { holds = h }) x k ≡ Err cause in
+      subst (Fails a.registers.net.now a.registers.holds) s (subst
+      (λ h. Fails a.registers.net.now h r.after) holds (subst (λ n. Fails n r.holds r.after) net d))
 
 -- ---- answers that are handed on
 
@@ -97,7 +127,8 @@ pub on_ok : {A E : Type 0} (P Q : Type 0) (r : Result A E) → (P → Q) → OnO
 on_ok P Q (Ok x) f h = f h
 on_ok P Q (Err e) f h = tt
 
-pub if_err : {A E : Type 0} (P Q : E → Type 0) (r : Result A E) → ((e : E) → P e → Q e) → IfErr r P → IfErr r Q
+pub if_err : {A E : Type 0} (P Q : E → Type 0) (r : Result A E)
+    → ((e : E) → P e → Q e) → IfErr r P → IfErr r Q
 if_err P Q (Ok x) f h = tt
 if_err P Q (Err e) f h = f e h
 
@@ -105,29 +136,130 @@ pub if_ok : {A E : Type 0} (P Q : A → Type 0) (r : Result A E) → ((x : A) �
 if_ok P Q (Ok x) f h = f x h
 if_ok P Q (Err e) f h = tt
 
-pub stops_as : (s t : Step) (a : Auditor) → ((rs : List Reading) (cause : Cause) → s a.registers.net.now a.device.now (state_of a rs) ≡ Err cause → t a.registers.net.now a.device.now (state_of a rs) ≡ Err cause) → (halt : Halt) → Stops s a halt → Stops t a halt
+pub stops_as : (s t : Step) (a : Auditor)
+    → ((rs : List Reading) (cause : Cause) → s a.registers.net.now a.device.now (state_of a rs) ≡ Err cause
+    → t a.registers.net.now a.device.now (state_of a rs) ≡ Err cause)
+    → (halt : Halt) → Stops s a halt → Stops t a halt
 stops_as s t a f MemoryHalt h = tt
 stops_as s t a f (CauseHalt cause) h = λ rs. f rs cause (h rs)
 
 -- why a data scan of the network stops
-pub scan_stops : (a : Auditor) (r : Registers) (x : SeenScan) (net : r.net.now ≡ a.registers.net.now) (holds : r.holds ≡ a.registers.holds) → r.after ≡ after a r x net holds → x.len ≡ length (chain (route_of a.registers.net.now a.registers.holds) a.registers.holds) → list_all (has_row (after a r x net holds)) a.registers.net.now.muxes.items ≡ true → (halt : Halt) → Stops (λ n d s. act n d s x r.after) (record a { registers = r }) halt → Stops (λ n d s. scan n d s x) a halt
+pub scan_stops : (a : Auditor) (r : Registers) (x : SeenScan) (net : r.net.now ≡ a.registers.net.now)
+    (holds : r.holds ≡ a.registers.holds) → r.after ≡ after a r x net holds
+    → x.len ≡ length (chain (route_of a.registers.net.now a.registers.holds) a.registers.holds)
+    → list_all (has_row (after a r x net holds)) a.registers.net.now.muxes.items ≡ true → (halt : Halt)
+    → Stops (λ n d s. act n d s x r.after) (record a { registers = r }) halt
+    → Stops (λ n d s. scan n d s x) a halt
 scan_stops a r x net holds s len rows MemoryHalt h = tt
 scan_stops a r x net holds s len rows (CauseHalt cause) h =
-    λ rs. scan_acts a.registers.net.now a.device.now (state_of a rs) x len rows ∙ act_fails a r x net holds rs cause s (h rs)
+    λ rs. scan_acts a.registers.net.now a.device.now (state_of a rs) x len rows
+    ∙ act_fails a r x net holds rs cause s (h rs)
 
 -- what a data scan leaves
-pub data_goes : (net : Net) (a z : Auditor) (k : Kept) (x : SeenScan) (rs more : List Reading) → z.linked ≡ a.linked → z.ir ≡ a.ir → z.scans ≡ a.scans → seen_kept k ≡ after_scan (seen_kept a.dr) x → ok (scanned net a.device.now (state_of a rs) x z.registers.holds more (work_left z.left)) ≡ ok (state_of (record z { rest = Idle; dr = k; scans = z.scans + 1 }) more)
+pub data_goes : (net : Net) (a z : Auditor) (k : Kept) (x : SeenScan) (rs more : List Reading)
+    → z.linked ≡ a.linked → z.ir ≡ a.ir → z.scans ≡ a.scans → seen_kept k ≡ after_scan (seen_kept a.dr) x
+    → ok (scanned net a.device.now (state_of a rs) x z.registers.holds more (work_left z.left))
+    ≡ ok (state_of (record z { rest = Idle; dr = k; scans = z.scans + 1 }) more)
 data_goes net a z k x rs more l i s e =
-    ap (λ t. ok (record { holds = z.registers.holds; linked = t; rest = Idle; ir = seen_kept a.ir; dr = after_scan (seen_kept a.dr) x; scans = suc a.scans; readings = more; left = work_left z.left })) (sym l)
-    ∙ ap (λ t. ok (record { holds = z.registers.holds; linked = z.linked; rest = Idle; ir = seen_kept t; dr = after_scan (seen_kept a.dr) x; scans = suc a.scans; readings = more; left = work_left z.left })) (sym i)
-    ∙ ap (λ t. ok (record { holds = z.registers.holds; linked = z.linked; rest = Idle; ir = seen_kept z.ir; dr = t; scans = suc a.scans; readings = more; left = work_left z.left })) (sym e)
-    ∙ ap (λ t. ok (record { holds = z.registers.holds; linked = z.linked; rest = Idle; ir = seen_kept z.ir; dr = seen_kept k; scans = t; readings = more; left = work_left z.left })) (sym (add-one z.scans ∙ ap suc s))
+    ap (λ t. ok (record {
+      holds = z.registers.holds;
+      linked = t;
+      rest = Idle;
+      ir = seen_kept a.ir;
+      dr = after_scan (seen_kept a.dr) x;
+      scans = suc a.scans;
+      readings = more;
+      left = work_left z.left;
+    }))
+    (sym l)
+    ∙ ap (λ t. ok (record {
+      holds = z.registers.holds;
+      linked = z.linked;
+      rest = Idle;
+      ir = seen_kept t;
+      dr = after_scan (seen_kept a.dr) x;
+      scans = suc a.scans;
+      readings = more;
+      left = work_left z.left;
+    }))
+    (sym i)
+    ∙ ap (λ t. ok (record {
+      holds = z.registers.holds;
+      linked = z.linked;
+      rest = Idle;
+      ir = seen_kept z.ir;
+      dr = t;
+      scans = suc a.scans;
+      readings = more;
+      left = work_left z.left;
+    })) (sym e)
+    ∙ ap (λ t. ok (record {
+      holds = z.registers.holds;
+      linked = z.linked;
+      rest = Idle;
+      ir = seen_kept z.ir;
+      dr = seen_kept k;
+      scans = t;
+      readings = more;
+      left = work_left z.left;
+    }))
+    (sym (add-one z.scans ∙ ap suc s))
 
 -- what a reset leaves
-pub reset_leaves : (a z : Auditor) (r : Registers) (rs : List Reading) → z.registers ≡ a.registers → z.ir ≡ a.ir → z.dr ≡ a.dr → z.scans ≡ a.scans → r.holds ≡ reset_holds z.registers.net.now z.registers.holds → ok (was_reset a.registers.net.now a.device.now (state_of a rs) (work_left z.left)) ≡ ok (state_of (record z { registers = r; linked = false; rest = InReset }) rs)
+pub reset_leaves : (a z : Auditor) (r : Registers) (rs : List Reading) → z.registers ≡ a.registers
+    → z.ir ≡ a.ir → z.dr ≡ a.dr → z.scans ≡ a.scans
+    → r.holds ≡ reset_holds z.registers.net.now z.registers.holds
+    → ok (was_reset a.registers.net.now a.device.now (state_of a rs) (work_left z.left))
+    ≡ ok (state_of (record z { registers = r; linked = false; rest = InReset }) rs)
 reset_leaves a z r rs g i d s h =
-    ap (λ t. ok (record { holds = reset_holds t.net.now t.holds; linked = false; rest = InReset; ir = seen_kept a.ir; dr = seen_kept a.dr; scans = a.scans; readings = rs; left = work_left z.left })) (sym g)
-    ∙ ap (λ t. ok (record { holds = t; linked = false; rest = InReset; ir = seen_kept a.ir; dr = seen_kept a.dr; scans = a.scans; readings = rs; left = work_left z.left })) (sym h)
-    ∙ ap (λ t. ok (record { holds = r.holds; linked = false; rest = InReset; ir = seen_kept t; dr = seen_kept a.dr; scans = a.scans; readings = rs; left = work_left z.left })) (sym i)
-    ∙ ap (λ t. ok (record { holds = r.holds; linked = false; rest = InReset; ir = seen_kept z.ir; dr = seen_kept t; scans = a.scans; readings = rs; left = work_left z.left })) (sym d)
-    ∙ ap (λ t. ok (record { holds = r.holds; linked = false; rest = InReset; ir = seen_kept z.ir; dr = seen_kept z.dr; scans = t; readings = rs; left = work_left z.left })) (sym s)
+    ap (λ t. ok (record {
+      holds = reset_holds t.net.now t.holds;
+      linked = false;
+      rest = InReset;
+      ir = seen_kept a.ir;
+      dr = seen_kept a.dr;
+      scans = a.scans;
+      readings = rs;
+      left = work_left z.left;
+    }))
+    (sym g)
+    ∙ ap (λ t. ok (record {
+      holds = t;
+      linked = false;
+      rest = InReset;
+      ir = seen_kept a.ir;
+      dr = seen_kept a.dr;
+      scans = a.scans;
+      readings = rs;
+      left = work_left z.left;
+    })) (sym h)
+    ∙ ap (λ t. ok (record {
+      holds = r.holds;
+      linked = false;
+      rest = InReset;
+      ir = seen_kept t;
+      dr = seen_kept a.dr;
+      scans = a.scans;
+      readings = rs;
+      left = work_left z.left;
+    })) (sym i)
+    ∙ ap (λ t. ok (record {
+      holds = r.holds;
+      linked = false;
+      rest = InReset;
+      ir = seen_kept z.ir;
+      dr = seen_kept t;
+      scans = a.scans;
+      readings = rs;
+      left = work_left z.left;
+    })) (sym d)
+    ∙ ap (λ t. ok (record {
+      holds = r.holds;
+      linked = false;
+      rest = InReset;
+      ir = seen_kept z.ir;
+      dr = seen_kept z.dr;
+      scans = t;
+      readings = rs;
+      left = work_left z.left;
+    })) (sym s)

@@ -1,5 +1,6 @@
 -- How the code of an audit follows the definition, command by command.
-use Rattle.std.specs.Prelude.{◌≡◌, ℕ, Bool, true, false, not, ◌&&◌, List, map, All, Option, Some, Result, Ok, Err}
+use Rattle.std.specs.Prelude.{◌≡◌, ℕ, Bool, true, false, not, ◌&&◌, List, map, All, Option, Some, Result, Ok}
+use Rattle.std.specs.Prelude.{Err}
 use Rattle.net_graph.specs.declared.device.Device.{Device}
 use Rattle.net_graph.specs.declared.net.Net.{Net}
 use Rattle.net_graph.specs.SeenSteps.{SeenGroup, seen_step}
@@ -10,7 +11,9 @@ use Rattle.net_graph.specs.Numbered.{HaveMarks}
 use Rattle.svf_writer.specs.Fits.{FitsAfter}
 use Rattle.svf_writer.specs.SeenCommands.{SeenCommand, SeenScan, SIR, SDR, Reset, Idle, Run}
 use Rattle.tap_machine.specs.Play.{is_empty, played}
-use Rattle.svf_audit.specs.Audit.{Reading, State, Says, at_end, changed, compares, do_group as do_due, does_reads, does_writes, need, reset as reset_by, scan as scan_of, scanned, step as step_of, was_reset}
+use Rattle.svf_audit.specs.Audit.{Reading, State, Says, at_end, changed, compares, do_group as do_due}
+use Rattle.svf_audit.specs.Audit.{does_reads, does_writes, need, reset as reset_by, scan as scan_of, scanned}
+use Rattle.svf_audit.specs.Audit.{step as step_of, was_reset}
 use Rattle.svf_audit.specs.Kept.{AreKept, seen_kept}
 use Rattle.svf_audit.specs.Left.{IsWithin, work_left}
 use Rattle.svf_audit.specs.Registers.{path_in, AreRegisters, AreStill}
@@ -61,7 +64,8 @@ pub record Follows (step : Step) (old new : Auditor) : Type 0 where
   pub sound : IsAuditor new
   pub net : new.registers.net.now ≡ old.registers.net.now
   pub device : new.device.now ≡ old.device.now
-  pub goes : (readings : List Reading) → AreNoted old readings → (more : List Reading) × AreNoted new more × (step old.registers.net.now old.device.now (state_of old readings) ≡ ok (state_of new more))
+  pub goes : (readings : List Reading) → AreNoted old readings → (more : List Reading) × AreNoted new more
+      × (step old.registers.net.now old.device.now (state_of old readings) ≡ ok (state_of new more))
 
 -- or it meets a cause
 abbrev pub Stops : Step → Auditor → Halt → Type 0
@@ -78,7 +82,8 @@ then (Err cause) next = Err cause
 abbrev pub Does : {A : Type 0} → Registers → List (Option Bool) → SeenGroup → Result A Cause → Type 0
 Does r expects g result =
     (next : Result State Cause) →
-    need (does_writes g (changed r.net.now (path_in r) r.holds r.after) r.after) Write (need (does_reads g (path_in r) r.holds expects) Read next)
+    need (does_writes g (changed r.net.now (path_in r) r.holds r.after) r.after) Write
+    (need (does_reads g (path_in r) r.holds expects) Read next)
     ≡ then result next
 
 -- the scan at hand did the group that was due
@@ -86,7 +91,9 @@ abbrev pub DidGroup : Auditor → Auditor → SeenScan → Type 0
 DidGroup old new x =
     (readings : List Reading) → AreNoted old readings →
     (more : List Reading) × AreNoted new more
-    × (do_due old.registers.net.now old.device.now (state_of old readings) x old.registers.after ≡ ok (scanned old.registers.net.now old.device.now (state_of old readings) x old.registers.after more (work_left new.left)))
+    × (do_due old.registers.net.now old.device.now (state_of old readings) x old.registers.after
+    ≡ ok (scanned old.registers.net.now old.device.now
+    (state_of old readings) x old.registers.after more (work_left new.left)))
 
 -- what a data scan of the network does where it leaves these bits
 abbrev pub act : Net → Device → State → SeenScan → Holds → Result State Cause
@@ -100,31 +107,39 @@ abbrev pub DidAct : Auditor → Auditor → SeenScan → Type 0
 DidAct old new x =
     (readings : List Reading) → AreNoted old readings →
     (more : List Reading) × AreNoted new more
-    × (act old.registers.net.now old.device.now (state_of old readings) x old.registers.after ≡ ok (scanned old.registers.net.now old.device.now (state_of old readings) x old.registers.after more (work_left new.left)))
+    × (act old.registers.net.now old.device.now (state_of old readings) x old.registers.after
+    ≡ ok (scanned old.registers.net.now old.device.now
+    (state_of old readings) x old.registers.after more (work_left new.left)))
 
 -- a data scan of the network was done
 abbrev pub DidScan : Auditor → Auditor → SeenScan → Type 0
 DidScan old new x =
     (readings : List Reading) → AreNoted old readings →
     (more : List Reading) × AreNoted new more
-    × (scan_of old.registers.net.now old.device.now (state_of old readings) x ≡ ok (scanned old.registers.net.now old.device.now (state_of old readings) x new.registers.holds more (work_left new.left)))
+    × (scan_of old.registers.net.now old.device.now (state_of old readings) x
+    ≡ ok (scanned old.registers.net.now old.device.now
+    (state_of old readings) x new.registers.holds more (work_left new.left)))
 
 -- a data scan was done, whether it reached the network or not
 abbrev pub DidReach : Auditor → Auditor → SeenScan → Type 0
 DidReach old new x =
     (readings : List Reading) → AreNoted old readings →
     (more : List Reading) × AreNoted new more
-    × (step_of old.registers.net.now old.device.now (state_of old readings) (SDR x) ≡ ok (scanned old.registers.net.now old.device.now (state_of old readings) x new.registers.holds more (work_left new.left)))
+    × (step_of old.registers.net.now old.device.now (state_of old readings) (SDR x)
+    ≡ ok (scanned old.registers.net.now old.device.now
+    (state_of old readings) x new.registers.holds more (work_left new.left)))
 
 -- the work of a reset was done
 abbrev pub DidReset : Auditor → Auditor → Type 0
 DidReset old new =
-    (readings : List Reading) → reset_by old.registers.net.now old.device.now old.rest (state_of old readings) ≡ ok (was_reset old.registers.net.now old.device.now (state_of old readings) (work_left new.left))
+    (readings : List Reading) → reset_by old.registers.net.now old.device.now old.rest (state_of old readings)
+    ≡ ok (was_reset old.registers.net.now old.device.now (state_of old readings) (work_left new.left))
 
 -- after all commands
 abbrev pub Ends : Audit → Auditor → Type 0
 Ends answer a =
-    (readings : List Reading) → AreNoted a readings → Says answer (at_end a.registers.net.now a.device.now (state_of a readings))
+    (readings : List Reading) → AreNoted a readings
+    → Says answer (at_end a.registers.net.now a.device.now (state_of a readings))
 
 -- the no of a cause
 abbrev pub IsNo : Halt → ℕ → Audit → Type 0

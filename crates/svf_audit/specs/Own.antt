@@ -15,7 +15,8 @@ use Rattle.svf_audit.specs.Audit.{Reading, Yes, audit}
 use Rattle.headline.specs.Retargeting.{PlannedStep, seen_of, script_of, StepsArePlanned, IsRetargetable}
 use Rattle.svf_audit.specs.Listed.{ScriptLists}
 
--- on every well formed network, of the commands of a script that is planned and leaves every mux a listed value
+-- on every well formed network, of the commands of a script that is planned and leaves every mux a listed
+-- value
 abbrev pub PlannedScriptsPass : Type 0
 PlannedScriptsPass =
     (net : Net) (device : Device) (ds : List ScannedStep) →
@@ -42,12 +43,14 @@ abbrev pub PlansPass : Type 0
 PlansPass =
     (net : Net) (form : Items) (device : Device) (xs : List PlannedStep) →
     IsRetargetable net form → IsDevice device → StepsArePlanned net form (start_holds net) xs →
-    (readings : List Reading) × (audit net device (map seen_of xs) (script_commands device (script_of net (start_holds net) xs)) ≡ Yes readings)
+    (readings : List Reading) × (audit net device (map seen_of xs)
+    (script_commands device (script_of net (start_holds net) xs)) ≡ Yes readings)
 
 -- and of what a reader of SVF finds in its text
 abbrev pub PlanTextsPass : Type 0
 PlanTextsPass =
     (net : Net) (form : Items) (device : Device) (xs : List PlannedStep) (commands : List SeenCommand) →
     IsRetargetable net form → IsDevice device → StepsArePlanned net form (start_holds net) xs →
-    clocks (script_commands device (script_of net (start_holds net) xs)) ≤ 1000000000 → svf (script_text device (script_of net (start_holds net) xs)) ≡ Ok commands →
+    clocks (script_commands device (script_of net (start_holds net) xs)) ≤ 1000000000
+    → svf (script_text device (script_of net (start_holds net) xs)) ≡ Ok commands →
     (readings : List Reading) × (audit net device (map seen_of xs) commands ≡ Yes readings)

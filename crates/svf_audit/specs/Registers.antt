@@ -1,5 +1,6 @@
 -- The scan registers of a network as an audit keeps them, before and after the scan at hand.
-use Rattle.std.specs.Prelude.{◌≡◌, ℕ, ◌+◌, ◌≤◌, Bool, true, false, List, [], ◌∷◌, ◌++◌, length, take, drop, filter, not, vec_capacity, IsTrue}
+use Rattle.std.specs.Prelude.{◌≡◌, ℕ, ◌+◌, ◌≤◌, Bool, true, false, List, [], ◌∷◌, ◌++◌, length, take, drop}
+use Rattle.std.specs.Prelude.{filter, not, vec_capacity, IsTrue}
 use Rattle.std.specs.List.{list_all}
 use Rattle.ij_bits.specs.BitLists.{same_bit}
 use Rattle.net_graph.specs.declared.net.BitId.{BitId}
@@ -64,7 +65,8 @@ abbrev pub differing : List BitId → List Bool → List Bool → List BitId
 differing [] before now = []
 differing (b ∷ bs) [] now = []
 differing (b ∷ bs) (x ∷ xs) [] = []
-differing (b ∷ bs) (x ∷ xs) (y ∷ ys) = elim (same_bit y x) [ true ↦ differing bs xs ys | false ↦ b ∷ differing bs xs ys ]
+differing (b ∷ bs) (x ∷ xs) (y ∷ ys) =
+    elim (same_bit y x) [ true ↦ differing bs xs ys | false ↦ b ∷ differing bs xs ys ]
 
 -- the path has taken so many bits
 pub record IsTurned (r : Registers) (tdi : List Bool) (k : ℕ) : Type 0 where

@@ -1,4 +1,5 @@
--- What is printed of an audit of SVF: one line (Serial Vector Format, revision E; IEEE 1687-2014, PDL level 0).
+-- What is printed of an audit of SVF: one line (Serial Vector Format, revision E; IEEE 1687-2014, PDL level
+-- 0).
 use Rattle.std.specs.Prelude.{ℕ, Bool, true, false, List, [], ◌∷◌, codes, decimal}
 use Rattle.ij_io.specs.Bytes.{concat}
 use Rattle.net_graph.specs.declared.device.Device.{Device}
@@ -9,7 +10,8 @@ use Rattle.svf_audit.specs.Audit.{Verdict, Yes, No, audit}
 use Rattle.svf_audit.specs.declared.answer.Audit.{Audit}
 use Rattle.svf_audit.specs.declared.answer.Audit.TheVariants.{Yes as SaysYes, No as SaysNo}
 use Rattle.svf_audit.specs.declared.answer.Cause.{Cause}
-use Rattle.svf_audit.specs.declared.answer.Cause.TheVariants.{Length, Compare, Select, Step, Write, Read, Run, Reset, End}
+use Rattle.svf_audit.specs.declared.answer.Cause.TheVariants.{Length, Compare, Select, Step, Write, Read, Run}
+use Rattle.svf_audit.specs.declared.answer.Cause.TheVariants.{Reset, End}
 use Rattle.svf_writer.specs.SeenCommands.{SeenCommand}
 use Rattle.tap_machine.specs.Play.{scans_in}
 
@@ -27,7 +29,8 @@ cause_name End = codes "End"
 
 -- a yes tells how many rounds the procedure has, and how many scans the SVF
 unfoldable pub yes_text : ℕ → ℕ → List ℕ
-yes_text rounds scans = concat (codes "audit yes groups " ∷ decimal rounds ∷ codes " scans " ∷ decimal scans ∷ codes "\n" ∷ [])
+yes_text rounds scans =
+    concat (codes "audit yes groups " ∷ decimal rounds ∷ codes " scans " ∷ decimal scans ∷ codes "\n" ∷ [])
 
 -- a no tells the scans up to the command at fault and with it, and the cause
 unfoldable pub no_text : ℕ → List ℕ → List ℕ
@@ -39,7 +42,8 @@ verdict_text rounds scans (No scan cause) = no_text scan (cause_name cause)
 
 -- the line of an audit
 abbrev pub audit_text : Net → Device → List SeenStep → List SeenCommand → List ℕ
-audit_text net device steps commands = verdict_text (rounds_in steps) (scans_in commands) (audit net device steps commands)
+audit_text net device steps commands =
+    verdict_text (rounds_in steps) (scans_in commands) (audit net device steps commands)
 
 -- whether an audit says no
 abbrev pub says_no : Verdict → Bool

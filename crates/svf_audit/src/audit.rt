@@ -59,8 +59,10 @@ fn step_all<'a>(auditor: &mut Auditor<'a>, commands: &'a Commands) -> Result<(),
     requires fit { AreFitAfter (last_length auditor.old.ir) (last_length auditor.old.dr) commands.now }
     requires few { auditor.old.scans + scans_in commands.now < 2 ^ 32 }
     ensures sound { OnOk result (IsAuditor auditor.new) }
-    ensures ok { OnOk result ((answer : Audit) → Ends answer auditor.new → Says answer (audit_from auditor.old.registers.net.now auditor.old.device.now (state_of auditor.old []) commands.now)) }
-    ensures err { IfErr result (λ s. (answer : Audit) → IsNo s.halt s.scan answer → Says answer (audit_from auditor.old.registers.net.now auditor.old.device.now (state_of auditor.old []) commands.now)) }
+    ensures ok { OnOk result ((answer : Audit) → Ends answer auditor.new → Says answer (audit_from
+        auditor.old.registers.net.now auditor.old.device.now (state_of auditor.old []) commands.now)) }
+    ensures err { IfErr result (λ s. (answer : Audit) → IsNo s.halt s.scan answer → Says answer (audit_from
+        auditor.old.registers.net.now auditor.old.device.now (state_of auditor.old []) commands.now)) }
 {
     for i in 0..commands.len() {
         let command = commands.get(i);
@@ -84,7 +86,8 @@ fn audited<'a>(
     requires noted { AreNoted auditor.old [] }
     requires fit { AreFitAfter (last_length auditor.old.ir) (last_length auditor.old.dr) commands.now }
     requires few { auditor.old.scans + scans_in commands.now < 2 ^ 32 }
-    ensures { IfOk result (λ answer. Says answer (audit_from auditor.old.registers.net.now auditor.old.device.now (state_of auditor.old []) commands.now)) }
+    ensures { IfOk result (λ answer. Says answer (audit_from auditor.old.registers.net.now
+        auditor.old.device.now (state_of auditor.old []) commands.now)) }
 {
     match step_all(auditor, commands) {
         Ok(()) => Ok(end(alloc, auditor)),
@@ -92,8 +95,8 @@ fn audited<'a>(
     }
 }
 
-/// Tells whether the commands of some SVF do what the bit steps of a procedure ask for (IEEE 1687-2014, PDL level 0; Serial
-/// Vector Format, revision E), without playing them.
+/// Tells whether the commands of some SVF do what the bit steps of a procedure ask for (IEEE 1687-2014, PDL
+/// level 0; Serial Vector Format, revision E), without playing them.
 ///
 /// # Errors
 ///
@@ -108,7 +111,8 @@ pub fn audit_svf(
     requires net { IsNet net.now }
     requires steps { All (IsStep net.now) (map seen_step steps.now.items) }
     requires few { scans_in commands.now < 2 ^ 32 }
-    ensures { IfOk result (λ answer. Says answer (audit net.now device.now (map seen_step steps.now.items) commands.now)) }
+    ensures { IfOk result
+        (λ answer. Says answer (audit net.now device.now (map seen_step steps.now.items) commands.now)) }
 {
     // Its contract says that the commands can be played.
     let _count = commands.len();

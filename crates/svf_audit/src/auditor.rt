@@ -1,5 +1,6 @@
 // How far an audit has come.
-ghost use Rattle.std.specs.Prelude.{◌≡◌, ◌+◌, ◌<◌, ◌^◌, ◌∷◌, ◌++◌, ◌||◌, [], None, Some, true, false, All, length, map, not, IfErr, IfOk, IsFalse, IsTrue, OnErr, OnOk};
+ghost use Rattle.std.specs.Prelude.{◌≡◌, ◌+◌, ◌<◌, ◌^◌, ◌∷◌, ◌++◌, ◌||◌, [], None, Some, true, false, All};
+ghost use Rattle.std.specs.Prelude.{length, map, not, IfErr, IfOk, IsFalse, IsTrue, OnErr, OnOk};
 ghost use Rattle.std.specs.List.{list_any};
 ghost use Rattle.std.specs.Option.{is_some};
 ghost use Rattle.net_graph.specs.Chain.{chain};
@@ -8,13 +9,17 @@ ghost use Rattle.net_graph.specs.Path.{is_select};
 ghost use Rattle.net_graph.specs.SeenSteps.{seen_group, seen_step};
 ghost use Rattle.net_graph.specs.Steps.{IsGroup, IsStep};
 ghost use Rattle.svf_writer.specs.Fits.{FitsAfter, HasLength};
-ghost use Rattle.svf_writer.specs.SeenCommands.{seen_command, seen_scan, SDR, SIR, Reset as StateReset, Run as RunTest};
+ghost use Rattle.svf_writer.specs.SeenCommands.{seen_command, seen_scan, SDR, SIR, Reset as StateReset};
+ghost use Rattle.svf_writer.specs.SeenCommands.{Run as RunTest};
 ghost use Rattle.tap_machine.specs.Play.{after_scan, is_empty, scans_in};
 ghost use Rattle.net_graph.specs.Numbered.{HaveMarks};
 ghost use Rattle.svf_audit.specs.declared.answer.Cause.TheVariants as causes;
 ghost use Rattle.svf_audit.specs.declared.auditor.Halt.TheVariants as halts;
-ghost use Rattle.svf_audit.specs.Audit.{do_group as do_due, reset as reset_by, scan as scan_of, start, step as step_of};
-ghost use Rattle.svf_audit.specs.Auditing.{act as act_of, last_dr, last_ir, state_of, AreNoted, DidAct, DidGroup, DidReach, DidReset, DidScan, Does, FitsNext, Follows, IsAuditor, Stops};
+ghost use Rattle.svf_audit.specs.Audit.{do_group as do_due, reset as reset_by, scan as scan_of, start};
+ghost use Rattle.svf_audit.specs.Audit.{step as step_of};
+ghost use Rattle.svf_audit.specs.Auditing.{act as act_of, last_dr, last_ir, state_of, AreNoted, DidAct};
+ghost use Rattle.svf_audit.specs.Auditing.{DidGroup, DidReach, DidReset, DidScan, Does, FitsNext, Follows};
+ghost use Rattle.svf_audit.specs.Auditing.{IsAuditor, Stops};
 ghost use Rattle.svf_audit.specs.Kept.{last_length, looked_for, seen_kept, AreKept};
 ghost use Rattle.svf_audit.specs.Left.{work_left, IsWithin};
 ghost use Rattle.svf_audit.specs.Registers.{path_in, AreFound, AreRegisters, AreShifted, AreStill};
@@ -48,8 +53,9 @@ impl From<OutOfMemory> for Halt {
     }
 }
 
-/// An audit under way: the registers, whether the link's instruction is in force, where the controller rests, what is kept for
-/// SIR and for SDR, the scans so far, those of them that did groups with reads, and the work that is left.
+/// An audit under way: the registers, whether the link's instruction is in force, where the controller rests,
+/// what is kept for SIR and for SDR, the scans so far, those of them that did groups with reads, and the work
+/// that is left.
 #[derive(Drop)]
 pub(crate) struct Auditor<'a> {
     pub device: &'a Device,
@@ -67,7 +73,8 @@ pub(crate) struct Auditor<'a> {
 
 /// A group that a scan does is noted, where it has reads.
 fn note(readings: &mut List<u32>, scan: u32, group: &Group) -> Result<(), OutOfMemory>
-    ensures { OnOk result (readings.new.items ≡ elim (is_empty group.now.reads.items) [ true ↦ readings.old.items | false ↦ readings.old.items ++ scan ∷ [] ]) }
+    ensures { OnOk result (readings.new.items ≡ elim (is_empty group.now.reads.items)
+        [ true ↦ readings.old.items | false ↦ readings.old.items ++ scan ∷ [] ]) }
 {
     if group.reads.is_empty() {
         return Ok(());
@@ -126,7 +133,8 @@ impl<'a> Auditor<'a> {
         ensures sound { IfOk result IsAuditor }
         ensures net { IfOk result (λ a. a.registers.net.now ≡ net.now) }
         ensures device { IfOk result (λ a. a.device.now ≡ device.now) }
-        ensures state { IfOk result (λ a. state_of a [] ≡ start net.now device.now (map seen_step steps.now.items)) }
+        ensures state { IfOk result
+            (λ a. state_of a [] ≡ start net.now device.now (map seen_step steps.now.items)) }
         ensures noted { IfOk result (λ a. AreNoted a []) }
         ensures ir { IfOk result (λ a. last_length a.ir ≡ None) }
         ensures dr { IfOk result (λ a. last_length a.dr ≡ None) }
@@ -152,8 +160,10 @@ impl<'a> Auditor<'a> {
         requires sound { IsAuditor self.old }
         requires fits { FitsAfter (last_length self.old.ir) (seen_scan scan.now) }
         requires few { self.old.scans + 1 < 2 ^ 32 }
-        ensures ok { OnOk result (Follows (λ net device a. step_of net device a (SIR (seen_scan scan.now))) self.old self.new) }
-        ensures err { IfErr result (Stops (λ net device a. step_of net device a (SIR (seen_scan scan.now))) self.old) }
+        ensures ok { OnOk result
+            (Follows (λ net device a. step_of net device a (SIR (seen_scan scan.now))) self.old self.new) }
+        ensures err { IfErr result
+            (Stops (λ net device a. step_of net device a (SIR (seen_scan scan.now))) self.old) }
         ensures scans { OnErr result (self.new.scans ≡ self.old.scans) }
         ensures more { OnOk result (self.new.scans ≡ self.old.scans + 1) }
         ensures ir { OnOk result (last_length self.new.ir ≡ Some scan.now.len) }
@@ -178,7 +188,8 @@ impl<'a> Auditor<'a> {
         requires sound { AreRegisters self.now.registers }
         requires kept { AreKept kept.now }
         requires tdo { HasLength kept.now.len tdo.now }
-        ensures { result ≡ (list_any (λ b. not (is_select self.now.registers.net.now b)) self.now.registers.moved.items || list_any is_some (looked_for kept.now tdo.now)) }
+        ensures { result ≡ (list_any (λ b. not (is_select self.now.registers.net.now b))
+            self.now.registers.moved.items || list_any is_some (looked_for kept.now tdo.now)) }
     {
         let r = &self.registers;
         some_data(r.net, &r.selects, r.moved.as_slice()) || compares_some(kept, tdo)
@@ -194,12 +205,15 @@ impl<'a> Auditor<'a> {
         requires tdo { HasLength kept.now.len scan.now.tdo }
         requires fits { kept.now.len ≡ length (chain (path_in self.old.registers) self.old.registers.holds) }
         requires within { IsWithin self.old.left }
-        requires steps { All (IsStep self.old.registers.net.now) (map seen_step self.old.left.steps.now.items) }
+        requires steps { All (IsStep self.old.registers.net.now)
+            (map seen_step self.old.left.steps.now.items) }
         requires marks { HaveMarks self.old.registers.net.now self.old.marks }
         requires few { self.old.scans + 1 < 2 ^ 32 }
         ensures ok { OnOk result (DidGroup self.old self.new (seen_scan scan.now)) }
-        ensures err { IfErr result (Stops (λ net device a. do_due net device a (seen_scan scan.now) self.old.registers.after) self.old) }
-        ensures others { self.new ≡ record self.old { readings = self.new.readings; left = self.new.left; marks = self.new.marks } }
+        ensures err { IfErr result (Stops
+            (λ net device a. do_due net device a (seen_scan scan.now) self.old.registers.after) self.old) }
+        ensures others { self.new
+            ≡ record self.old { readings = self.new.readings; left = self.new.left; marks = self.new.marks } }
         ensures marks { HaveMarks self.old.registers.net.now self.new.marks }
         ensures within { OnOk result (IsWithin self.new.left) }
         ensures steps { self.new.left.steps ≡ self.old.left.steps }
@@ -215,7 +229,8 @@ impl<'a> Auditor<'a> {
         Ok(())
     }
 
-    /// What the scan at hand does: nothing, where it changes and compares no data bit, or the group that is due.
+    /// What the scan at hand does: nothing, where it changes and compares no data bit, or the group that is
+    /// due.
     fn act(&mut self, kept: &Kept, scan: &Scan) -> Result<(), Halt>
         requires sound { AreRegisters self.old.registers }
         requires found { AreFound self.old.registers }
@@ -225,12 +240,15 @@ impl<'a> Auditor<'a> {
         requires tdo { HasLength kept.now.len scan.now.tdo }
         requires fits { kept.now.len ≡ length (chain (path_in self.old.registers) self.old.registers.holds) }
         requires within { IsWithin self.old.left }
-        requires steps { All (IsStep self.old.registers.net.now) (map seen_step self.old.left.steps.now.items) }
+        requires steps { All (IsStep self.old.registers.net.now)
+            (map seen_step self.old.left.steps.now.items) }
         requires marks { HaveMarks self.old.registers.net.now self.old.marks }
         requires few { self.old.scans + 1 < 2 ^ 32 }
         ensures ok { OnOk result (DidAct self.old self.new (seen_scan scan.now)) }
-        ensures err { IfErr result (Stops (λ net device a. act_of net device a (seen_scan scan.now) self.old.registers.after) self.old) }
-        ensures others { self.new ≡ record self.old { readings = self.new.readings; left = self.new.left; marks = self.new.marks } }
+        ensures err { IfErr result (Stops
+            (λ net device a. act_of net device a (seen_scan scan.now) self.old.registers.after) self.old) }
+        ensures others { self.new
+            ≡ record self.old { readings = self.new.readings; left = self.new.left; marks = self.new.marks } }
         ensures marks { HaveMarks self.old.registers.net.now self.new.marks }
         ensures within { OnOk result (IsWithin self.new.left) }
         ensures steps { self.new.left.steps ≡ self.old.left.steps }
@@ -249,8 +267,14 @@ impl<'a> Auditor<'a> {
         requires tdo { HasLength kept.now.len scan.now.tdo }
         requires few { self.old.scans + 1 < 2 ^ 32 }
         ensures ok { OnOk result (DidScan self.old self.new (seen_scan scan.now)) }
-        ensures err { IfErr result (Stops (λ net device a. scan_of net device a (seen_scan scan.now)) self.old) }
-        ensures others { self.new ≡ record self.old { registers = self.new.registers; readings = self.new.readings; left = self.new.left; marks = self.new.marks } }
+        ensures err { IfErr result
+            (Stops (λ net device a. scan_of net device a (seen_scan scan.now)) self.old) }
+        ensures others { self.new ≡ record self.old {
+          registers = self.new.registers;
+          readings = self.new.readings;
+          left = self.new.left;
+          marks = self.new.marks;
+        } }
         ensures marks { HaveMarks self.old.registers.net.now self.new.marks }
         ensures net { self.new.registers.net.now ≡ self.old.registers.net.now }
         ensures sound { OnOk result (AreRegisters self.new.registers) }
@@ -281,8 +305,14 @@ impl<'a> Auditor<'a> {
         requires tdo { HasLength kept.now.len scan.now.tdo }
         requires few { self.old.scans + 1 < 2 ^ 32 }
         ensures ok { OnOk result (DidReach self.old self.new (seen_scan scan.now)) }
-        ensures err { IfErr result (Stops (λ net device a. step_of net device a (SDR (seen_scan scan.now))) self.old) }
-        ensures others { self.new ≡ record self.old { registers = self.new.registers; readings = self.new.readings; left = self.new.left; marks = self.new.marks } }
+        ensures err { IfErr result
+            (Stops (λ net device a. step_of net device a (SDR (seen_scan scan.now))) self.old) }
+        ensures others { self.new ≡ record self.old {
+          registers = self.new.registers;
+          readings = self.new.readings;
+          left = self.new.left;
+          marks = self.new.marks;
+        } }
         ensures marks { HaveMarks self.old.registers.net.now self.new.marks }
         ensures net { self.new.registers.net.now ≡ self.old.registers.net.now }
         ensures sound { OnOk result (AreRegisters self.new.registers) }
@@ -304,8 +334,10 @@ impl<'a> Auditor<'a> {
         requires sound { IsAuditor self.old }
         requires fits { FitsAfter (last_length self.old.dr) (seen_scan scan.now) }
         requires few { self.old.scans + 1 < 2 ^ 32 }
-        ensures ok { OnOk result (Follows (λ net device a. step_of net device a (SDR (seen_scan scan.now))) self.old self.new) }
-        ensures err { IfErr result (Stops (λ net device a. step_of net device a (SDR (seen_scan scan.now))) self.old) }
+        ensures ok { OnOk result
+            (Follows (λ net device a. step_of net device a (SDR (seen_scan scan.now))) self.old self.new) }
+        ensures err { IfErr result
+            (Stops (λ net device a. step_of net device a (SDR (seen_scan scan.now))) self.old) }
         ensures scans { OnErr result (self.new.scans ≡ self.old.scans) }
         ensures more { OnOk result (self.new.scans ≡ self.old.scans + 1) }
         ensures ir { OnOk result (last_length self.new.ir ≡ last_length self.old.ir) }
@@ -321,11 +353,13 @@ impl<'a> Auditor<'a> {
         Ok(())
     }
 
-    /// Does the work of a reset, and answers whether it is due. It is none where the controller rests in Test-Logic-Reset already.
+    /// Does the work of a reset, and answers whether it is due. It is none where the controller rests in
+    /// Test-Logic-Reset already.
     fn do_reset(&mut self) -> bool
         requires sound { IsAuditor self.old }
         ensures done { IsTrue result → DidReset self.old self.new }
-        ensures none { IsFalse result → Stops (λ net device a. reset_by net device self.old.rest a) self.old (halts.Cause causes.Reset) }
+        ensures none { IsFalse result → Stops
+            (λ net device a. reset_by net device self.old.rest a) self.old (halts.Cause causes.Reset) }
         ensures others { self.new ≡ record self.old { left = self.new.left } }
         ensures within { IsWithin self.new.left }
         ensures steps { self.new.left.steps ≡ self.old.left.steps }
@@ -339,7 +373,8 @@ impl<'a> Auditor<'a> {
     /// A reset.
     fn reset(&mut self) -> Result<(), Halt>
         requires sound { IsAuditor self.old }
-        ensures ok { OnOk result (Follows (λ net device a. step_of net device a StateReset) self.old self.new) }
+        ensures ok { OnOk result
+            (Follows (λ net device a. step_of net device a StateReset) self.old self.new) }
         ensures err { IfErr result (Stops (λ net device a. step_of net device a StateReset) self.old) }
         ensures scans { self.new.scans ≡ self.old.scans }
         ensures ir { self.new.ir ≡ self.old.ir }
@@ -357,7 +392,8 @@ impl<'a> Auditor<'a> {
     /// A run.
     fn run(&mut self, cycles: u32) -> Result<(), Halt>
         requires sound { IsAuditor self.old }
-        ensures ok { OnOk result (Follows (λ net device a. step_of net device a (RunTest cycles)) self.old self.new) }
+        ensures ok { OnOk result
+            (Follows (λ net device a. step_of net device a (RunTest cycles)) self.old self.new) }
         ensures err { IfErr result (Stops (λ net device a. step_of net device a (RunTest cycles)) self.old) }
         ensures scans { self.new.scans ≡ self.old.scans }
         ensures ir { self.new.ir ≡ self.old.ir }
@@ -373,14 +409,20 @@ impl<'a> Auditor<'a> {
     /// The next command.
     pub fn step(&mut self, command: &'a Command) -> Result<(), Halt>
         requires sound { IsAuditor self.old }
-        requires fits { FitsNext (last_length self.old.ir) (last_length self.old.dr) (seen_command command.now) }
+        requires fits { FitsNext (last_length self.old.ir)
+            (last_length self.old.dr) (seen_command command.now) }
         requires few { self.old.scans + scans_in (seen_command command.now ∷ []) < 2 ^ 32 }
-        ensures ok { OnOk result (Follows (λ net device a. step_of net device a (seen_command command.now)) self.old self.new) }
-        ensures err { IfErr result (Stops (λ net device a. step_of net device a (seen_command command.now)) self.old) }
+        ensures ok { OnOk result
+            (Follows (λ net device a. step_of net device a (seen_command command.now)) self.old self.new) }
+        ensures err { IfErr result
+            (Stops (λ net device a. step_of net device a (seen_command command.now)) self.old) }
         ensures scans { OnErr result (self.new.scans ≡ self.old.scans) }
-        ensures more { OnOk result (self.new.scans ≡ self.old.scans + scans_in (seen_command command.now ∷ [])) }
-        ensures ir { OnOk result (last_length self.new.ir ≡ last_ir (last_length self.old.ir) (seen_command command.now)) }
-        ensures dr { OnOk result (last_length self.new.dr ≡ last_dr (last_length self.old.dr) (seen_command command.now)) }
+        ensures more { OnOk result (self.new.scans
+            ≡ self.old.scans + scans_in (seen_command command.now ∷ [])) }
+        ensures ir { OnOk result (last_length self.new.ir
+            ≡ last_ir (last_length self.old.ir) (seen_command command.now)) }
+        ensures dr { OnOk result (last_length self.new.dr
+            ≡ last_dr (last_length self.old.dr) (seen_command command.now)) }
     {
         match command {
             Command::Sir(scan) => self.load(scan),

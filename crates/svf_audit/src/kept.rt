@@ -1,5 +1,6 @@
 // TDI and MASK that hold over from scan to scan.
-ghost use Rattle.std.specs.Prelude.{◌≡◌, ◌+◌, ◌<◌, ◌≤◌, length, slice_index_or, slice_range, false, Some, None, get_or};
+ghost use Rattle.std.specs.Prelude.{◌≡◌, ◌+◌, ◌<◌, ◌≤◌, length, slice_index_or, slice_range, false, Some};
+ghost use Rattle.std.specs.Prelude.{None, get_or};
 ghost use Rattle.std.specs.List.{list_any};
 ghost use Rattle.std.specs.Option.{is_some};
 ghost use Rattle.ij_bits.specs.BitLists.{bits_eq, bits_of, number_of, has_one};
@@ -10,8 +11,8 @@ ghost use Rattle.tap_machine.specs.Play.{after_scan, no_scan};
 
 use svf_writer::{Part, Scan, lend};
 
-/// The length of the last scan of a kind, and the parts of the commands that it took its TDI and MASK from. Without MASK
-/// each bit is compared.
+/// The length of the last scan of a kind, and the parts of the commands that it took its TDI and MASK from.
+/// Without MASK each bit is compared.
 #[derive(Clone, Copy, Drop)]
 pub(crate) struct Kept<'a> {
     pub len: u32,
@@ -32,7 +33,8 @@ pub(crate) fn nothing_kept<'a>() -> Kept<'a>
     }
 }
 
-/// What the next scan shifts and compares by: TDI and MASK hold where the command has none, MASK up to a new length.
+/// What the next scan shifts and compares by: TDI and MASK hold where the command has none, MASK up to a new
+/// length.
 pub(crate) fn kept_after<'a>(kept: Kept<'a>, scan: &'a Scan) -> Kept<'a>
     requires sound { AreKept kept }
     requires fits { FitsAfter (last_length kept) (seen_scan scan.now) }

@@ -80,7 +80,8 @@ pub(crate) fn put_answer<K: Sink>(
     k: &mut K,
 ) -> Result<(), StoreFault>
     ensures whole { OnOk result (Adds (K.taken k.old) (K.taken k.new) (answer_text rounds scans answer.now)) }
-    ensures part { OnErr result (AddsPart (K.taken k.old) (K.taken k.new) (answer_text rounds scans answer.now)) }
+    ensures part { OnErr result
+        (AddsPart (K.taken k.old) (K.taken k.new) (answer_text rounds scans answer.now)) }
     ensures cause { HasCause (K.faults k.old) (K.faults k.new) result StoreFault.Failed }
 {
     match answer {

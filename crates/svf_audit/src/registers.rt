@@ -1,5 +1,6 @@
 // The scan registers of a network, before and after a scan.
-ghost use Rattle.std.specs.Prelude.{◌≡◌, ◌+◌, ◌<◌, ◌≤◌, ◌++◌, [], true, false, length, drop, map, vec_capacity, All, IfOk};
+ghost use Rattle.std.specs.Prelude.{◌≡◌, ◌+◌, ◌<◌, ◌≤◌, ◌++◌, [], true, false, length, drop, map};
+ghost use Rattle.std.specs.Prelude.{vec_capacity, All, IfOk};
 ghost use Rattle.std.specs.List.{list_all, list_any};
 ghost use Rattle.net_graph.specs.declared.net.BitId.{BitId as ABit};
 ghost use Rattle.net_graph.specs.Chain.{IsRoute, chain};
@@ -11,7 +12,8 @@ ghost use Rattle.net_graph.specs.Resets.{reset_holds, start_holds};
 ghost use Rattle.net_graph.specs.Signals.{hold_at};
 ghost use Rattle.svf_audit.specs.Audit.{bits_on, has_row};
 ghost use Rattle.svf_audit.specs.Kept.{AreKept, seen_tdi};
-ghost use Rattle.svf_audit.specs.Registers.{path_in, to_move, AreFound, AreListed, AreRegisters, AreShifted, AreStill, IsTurned};
+ghost use Rattle.svf_audit.specs.Registers.{path_in, to_move, AreFound, AreListed, AreRegisters, AreShifted};
+ghost use Rattle.svf_audit.specs.Registers.{AreStill, IsTurned};
 
 use crate::kept::{Kept, tdi_at, tdi_number};
 use crate::scan::{have_rows, some_select};
@@ -23,9 +25,9 @@ use std::mem::swap;
 /// The most bits that a network has.
 const MOST_BITS: u32 = 4096;
 
-/// The scan registers: what they hold, the active path, nearest scan-out first, its bits and what these hold; and what the
-/// registers hold after the scan at hand, with the bits that it changes. The bits are those of the path at every time, as
-/// the width of a register stays.
+/// The scan registers: what they hold, the active path, nearest scan-out first, its bits and what these hold;
+/// and what the registers hold after the scan at hand, with the bits that it changes. The bits are those of
+/// the path at every time, as the width of a register stays.
 #[derive(Drop)]
 pub(crate) struct Registers<'a> {
     pub net: &'a Net,
@@ -56,8 +58,8 @@ fn add_bits(reg: u32, width: u32, bits: &mut Vec<BitId>)
     }
 }
 
-/// Keeps of the bits of a path those of the registers with which another path begins as well, and answers how many registers
-/// these are.
+/// Keeps of the bits of a path those of the registers with which another path begins as well, and answers how
+/// many registers these are.
 fn keep_front(path: &[u32], old: &[u32], holds: &Holds, bits: &mut Vec<BitId>) -> usize
     requires route { IsRoute (length holds.now) path.now }
     requires known { bits.old.items ≡ bits_on holds.now old.now }
@@ -108,7 +110,8 @@ fn find_chain(path: &[u32], holds: &Holds, into: &mut Bits)
 fn put_bits(bits: &[BitId], from: &Holds, into: &mut Holds)
     requires shape { map length into.old ≡ map length from.now }
     requires there { All (IsHeld from.now) bits.now }
-    requires others { (b : ABit) → list_any (same_place b) bits.now ≡ false → hold_at into.old b ≡ hold_at from.now b }
+    requires others { (b : ABit) → list_any (same_place b) bits.now ≡ false
+        → hold_at into.old b ≡ hold_at from.now b }
     ensures { into.new ≡ from.now }
 {
     for bit in bits {
@@ -256,9 +259,11 @@ impl<'a> Registers<'a> {
         requires turned { IsTurned self.old (seen_tdi kept.now) k }
         requires within { k < length self.old.chain.items }
         ensures turned { IsTurned self.new (seen_tdi kept.now) (k + 1) }
-        ensures moves { to_move self.new (seen_tdi kept.now) (k + 1) ≡ to_move self.old (seen_tdi kept.now) k }
+        ensures moves { to_move self.new (seen_tdi kept.now) (k + 1)
+            ≡ to_move self.old (seen_tdi kept.now) k }
         ensures length { length self.new.chain.items ≡ length self.old.chain.items }
-        ensures others { self.new ≡ record self.old { chain = self.new.chain; after = self.new.after; moved = self.new.moved } }
+        ensures others { self.new
+            ≡ record self.old { chain = self.new.chain; after = self.new.after; moved = self.new.moved } }
     {
         let value = tdi_at(kept, k);
         if self.chain.get(k) == value {
@@ -276,9 +281,11 @@ impl<'a> Registers<'a> {
         requires turned { IsTurned self.old (seen_tdi kept.now) from }
         requires within { from + n ≤ length self.old.chain.items }
         ensures turned { IsTurned self.new (seen_tdi kept.now) (from + n) }
-        ensures moves { to_move self.new (seen_tdi kept.now) (from + n) ≡ to_move self.old (seen_tdi kept.now) from }
+        ensures moves { to_move self.new (seen_tdi kept.now) (from + n)
+            ≡ to_move self.old (seen_tdi kept.now) from }
         ensures length { length self.new.chain.items ≡ length self.old.chain.items }
-        ensures others { self.new ≡ record self.old { chain = self.new.chain; after = self.new.after; moved = self.new.moved } }
+        ensures others { self.new
+            ≡ record self.old { chain = self.new.chain; after = self.new.after; moved = self.new.moved } }
     {
         for i in 0..n {
             self.turn(kept, from + i);
@@ -292,9 +299,11 @@ impl<'a> Registers<'a> {
         requires turned { IsTurned self.old (seen_tdi kept.now) from }
         requires within { from + n ≤ length self.old.chain.items }
         ensures turned { IsTurned self.new (seen_tdi kept.now) (from + n) }
-        ensures moves { to_move self.new (seen_tdi kept.now) (from + n) ≡ to_move self.old (seen_tdi kept.now) from }
+        ensures moves { to_move self.new (seen_tdi kept.now) (from + n)
+            ≡ to_move self.old (seen_tdi kept.now) from }
         ensures length { length self.new.chain.items ≡ length self.old.chain.items }
-        ensures others { self.new ≡ record self.old { chain = self.new.chain; after = self.new.after; moved = self.new.moved } }
+        ensures others { self.new
+            ≡ record self.old { chain = self.new.chain; after = self.new.after; moved = self.new.moved } }
     {
         if self.chain.number(from, n) == tdi_number(kept, from, n) {
             return;
@@ -307,8 +316,10 @@ impl<'a> Registers<'a> {
         requires kept { AreKept kept.now }
         requires turned { IsTurned self.old (seen_tdi kept.now) 0 }
         ensures turned { IsTurned self.new (seen_tdi kept.now) (length self.old.chain.items) }
-        ensures moves { to_move self.new (seen_tdi kept.now) (length self.old.chain.items) ≡ to_move self.old (seen_tdi kept.now) 0 }
-        ensures others { self.new ≡ record self.old { chain = self.new.chain; after = self.new.after; moved = self.new.moved } }
+        ensures moves { to_move self.new (seen_tdi kept.now) (length self.old.chain.items)
+            ≡ to_move self.old (seen_tdi kept.now) 0 }
+        ensures others { self.new
+            ≡ record self.old { chain = self.new.chain; after = self.new.after; moved = self.new.moved } }
     {
         let n = self.chain.len();
         for word in 0..n.div_ceil(64) {
@@ -317,7 +328,8 @@ impl<'a> Registers<'a> {
         }
     }
 
-    /// Puts TDI on the path: what the registers hold after the scan, and which bits change. What they hold stays.
+    /// Puts TDI on the path: what the registers hold after the scan, and which bits change. What they hold
+    /// stays.
     pub fn shift(&mut self, kept: &Kept)
         requires sound { AreRegisters self.old }
         requires still { AreStill self.old }

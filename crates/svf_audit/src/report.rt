@@ -20,8 +20,9 @@ use std::alloc::Global;
 use svf_writer::Commands;
 use tap_machine::scan_count;
 
-/// Audits the commands of some SVF for the bit steps of a procedure (IEEE 1687-2014, PDL level 0; Serial Vector Format, revision
-/// E), and writes one line that tells what the audit says. Answers whether it says yes.
+/// Audits the commands of some SVF for the bit steps of a procedure (IEEE 1687-2014, PDL level 0; Serial
+/// Vector Format, revision E), and writes one line that tells what the audit says. Answers whether it says
+/// yes.
 ///
 /// # Errors
 ///
@@ -42,9 +43,12 @@ pub fn put_audit<K: Sink>(
     requires steps { All (IsStep net.now) steps.old.steps }
     requires few_rounds { rounds_in steps.old.steps ≤ 4096 }
     requires few_scans { scans_in commands.now ≤ 1000000000 }
-    ensures whole { OnOk result (Adds (K.taken k.old) (K.taken k.new) (audit_text net.now device.now steps.old.steps commands.now)) }
-    ensures yes { IfOk result (λ yes. says_no (audit net.now device.now steps.old.steps commands.now) ≡ not yes) }
-    ensures part { OnErr result (AddsPart (K.taken k.old) (K.taken k.new) (audit_text net.now device.now steps.old.steps commands.now)) }
+    ensures whole { OnOk result
+        (Adds (K.taken k.old) (K.taken k.new) (audit_text net.now device.now steps.old.steps commands.now)) }
+    ensures yes { IfOk result
+        (λ yes. says_no (audit net.now device.now steps.old.steps commands.now) ≡ not yes) }
+    ensures part { OnErr result (AddsPart (K.taken k.old) (K.taken k.new)
+        (audit_text net.now device.now steps.old.steps commands.now)) }
     ensures cause { HasCause (K.faults k.old) (K.faults k.new) result StoreFault.Failed }
 {
     let steps = list_steps(alloc, steps)?;

@@ -1,5 +1,7 @@
 -- How long a text with notes becomes.
-use Rattle.std.proofs.Common.{◌≡◌, ℕ, zero, suc, ◌+◌, ◌-◌, ◌*◌, ◌<◌, ◌≤◌, ◌^◌, Bool, true, false, Option, Some, None, List, [], ◌∷◌, ◌++◌, length, take, drop, map, refl, ap, sym, ◌∙◌, subst, arith, append_assoc, length-append}
+use Rattle.std.proofs.Common.{◌≡◌, ℕ, zero, suc, ◌+◌, ◌-◌, ◌*◌, ◌<◌, ◌≤◌, ◌^◌, Bool, true, false, Option}
+use Rattle.std.proofs.Common.{Some, None, List, [], ◌∷◌, ◌++◌, length, take, drop, map, refl, ap, sym, ◌∙◌}
+use Rattle.std.proofs.Common.{subst, arith, append_assoc, length-append}
 use Rattle.std.specs.Prelude.{◌==◌, cond, min, nat_lt, replicate}
 use Rattle.std.proofs.Math.Nat.{suc-mul}
 use Rattle.std.proofs.lemmas.Bool.Decides.{nat_tests}
@@ -23,12 +25,14 @@ use Rattle.svf_writer.specs.SeenCommands.{SIR, SDR, Reset, Idle, Run, SeenComman
 use Rattle.tap_machine.specs.declared.Pins.{Pins}
 use Rattle.tap_machine.specs.declared.Stable.{Stable}
 use Rattle.tap_machine.specs.declared.Stable.TheVariants.{Reset as InReset, Idle as InIdle}
-use Rattle.tap_machine.specs.Play.{LastScan, Played, after_scan, is_empty, no_scan, no_shift, pins_with, played, scans_in, shifts, to_idle}
+use Rattle.tap_machine.specs.Play.{LastScan, Played, after_scan, is_empty, no_scan, no_shift, pins_with}
+use Rattle.tap_machine.specs.Play.{played, scans_in, shifts, to_idle}
 use Rattle.svf_notes.specs.Explained.{closing, explained, explained_text, note_at, notes_left, with_notes}
 use Rattle.svf_notes.specs.Most.{AreNamedWithin, most_of, most_of_scan}
 use Rattle.svf_notes.specs.Notes.{note_of, note_text, played_scans}
 use Rattle.svf_notes.specs.Scans.{Scan, scans_of}
-use Rattle.svf_notes.proofs.Compared.{AreQuiet, quiet_idle, quiet_many, quiet_map, quiet_scans, shifted_bits, shifts_scan}
+use Rattle.svf_notes.proofs.Compared.{AreQuiet, quiet_idle, quiet_many, quiet_map, quiet_scans, shifted_bits}
+use Rattle.svf_notes.proofs.Compared.{shifts_scan}
 use Rattle.svf_notes.proofs.HaveBits.{Keeps, as_many, keeps_now, no_length}
 use Rattle.svf_notes.proofs.Lengths.{note_short}
 
@@ -49,7 +53,8 @@ closing_short rest = cases (first rest == 10)
         let one : length {A = ℕ} (cond false [] (10 ∷ [])) ≡ 1 = refl in
         omega (arith, one)
 
-note_total : (scans : Bool) (notes : List (List ℕ)) (rest : List ℕ) → length (note_at scans notes rest) + total (notes_left scans notes) ≤ total notes
+note_total : (scans : Bool) (notes : List (List ℕ)) (rest : List ℕ)
+    → length (note_at scans notes rest) + total (notes_left scans notes) ≤ total notes
 note_total false notes rest =
     let none : length (note_at false notes rest) ≡ 0 = refl in
     let same : total (notes_left false notes) ≡ total notes = refl in
@@ -59,12 +64,14 @@ note_total true [] rest =
     let left : total (notes_left true []) ≡ 0 = refl in
     omega (arith, none, left)
 note_total true (n ∷ ns) rest =
-    let one : length (note_at true (n ∷ ns) rest) ≡ length n + length (closing rest) = length-append n (closing rest) in
+    let one : length (note_at true (n ∷ ns) rest)
+    ≡ length n + length (closing rest) = length-append n (closing rest) in
     let left : total (notes_left true (n ∷ ns)) ≡ total ns = refl in
     let all : total (n ∷ ns) ≡ suc (length n) + total ns = refl in
     omega (arith, one, left, all, closing_short rest)
 
-noted_short : (ts notes : List (List ℕ)) (src : List ℕ) → length (with_notes ts notes src) ≤ length src + total notes
+noted_short : (ts notes : List (List ℕ)) (src : List ℕ)
+    → length (with_notes ts notes src) ≤ length src + total notes
 noted_short [] notes src =
     let same : length (with_notes [] notes src) ≡ length src = refl in
     omega (arith, same)
@@ -77,14 +84,24 @@ noted_short (t ∷ (u ∷ us)) notes src =
     let rest = drop n src in
     let here = note_at scans notes rest in
     let later = with_notes (u ∷ us) (notes_left scans notes) rest in
-    let cut : length (take n src) + length rest ≡ length src = sym (length-append (take n src) rest) ∙ ap length (take-append-drop n src) in
-    let whole : length (with_notes (t ∷ (u ∷ us)) notes src) ≡ length (take n src) + length (here ++ later) = length-append (take n src) (here ++ later) in
-    omega (arith, cut, whole, length-append here later, note_total scans notes rest, noted_short (u ∷ us) (notes_left scans notes) rest)
+    let cut : length (take n src) + length rest
+    ≡ length src = sym (length-append (take n src) rest) ∙ ap length (take-append-drop n src) in
+    let whole : length (with_notes (t ∷ (u ∷ us)) notes src)
+    ≡ length (take n src) + length (here ++ later) = length-append (take n src) (here ++ later) in
+    omega (
+      arith,
+      cut,
+      whole,
+      length-append here later,
+      note_total scans notes rest,
+      noted_short (u ∷ us) (notes_left scans notes) rest,
+    )
 
 -- ---- one scan
 
 module _ (c : Chip Counts) (wide : capture_widths c.net ≡ widths c.net) where
-  bits_length : (ts : List Bool) (es : List (Option Bool)) (s : State Counts) → length (shifted_bits c ts es s) ≡ length ts
+  bits_length : (ts : List Bool) (es : List (Option Bool)) (s : State Counts)
+      → length (shifted_bits c ts es s) ≡ length ts
   bits_length [] es s = refl
   bits_length (t ∷ ts) es s = ap suc (bits_length ts (drop 1 es) (clock c (is_empty ts) t s))
 
@@ -98,8 +115,10 @@ module _ (c : Chip Counts) (wide : capture_widths c.net ≡ widths c.net) where
     shaped : IsShaped c scan.state
     shaped_after : IsShaped c after
 
-  one_scan : (from : Stable) (front : List Bool) (n : ℕ) (tdi : List Bool) (es : List (Option Bool)) (rest : List Pins) (s : State Counts) → 0 < length tdi → IsShaped c s
-      → IsOneScan (to_idle from ++ (map no_shift front ++ (shifts (suc n) 0 tdi es ++ map no_shift (true ∷ false ∷ [])))) rest s (suc n) (length tdi)
+  one_scan : (from : Stable) (front : List Bool) (n : ℕ) (tdi : List Bool) (es : List (Option Bool))
+      (rest : List Pins) (s : State Counts) → 0 < length tdi → IsShaped c s
+      → IsOneScan (to_idle from ++ (map no_shift front
+      ++ (shifts (suc n) 0 tdi es ++ map no_shift (true ∷ false ∷ [])))) rest s (suc n) (length tdi)
   one_scan from front n [] es rest s some h = absurd (omega (arith, some))
   one_scan from front n (t ∷ ts) es rest s some h =
       let idle = to_idle from in
@@ -126,7 +145,8 @@ module _ (c : Chip Counts) (wide : capture_widths c.net ≡ widths c.net) where
             ∙ quiet_scans c idle (first ++ (scan ++ (back ++ rest))) s (quiet_idle from)
             ∙ quiet_scans c first (scan ++ (back ++ rest)) a (quiet_map front)
             ∙ shifts_scan c n 0 t ts es (back ++ rest) b
-            ∙ ap (λ (l : List (Scan Counts)). x ∷ l) (quiet_scans c back rest d (quiet_map (true ∷ false ∷ [])));
+            ∙ ap (λ (l : List (Scan Counts)). x ∷ l)
+            (quiet_scans c back rest d (quiet_map (true ∷ false ∷ [])));
         numbered = refl;
         sized = bits_length (t ∷ ts) es b;
         shaped = hd;
@@ -135,7 +155,8 @@ module _ (c : Chip Counts) (wide : capture_widths c.net ≡ widths c.net) where
 
   -- ---- all scans
 
-  module _ (is : IsNet c.net) (device : Device) (name : ℕ) (short : AreNamedWithin c.net (length c.net.regs.items) name) where
+  module _ (is : IsNet c.net) (device : Device) (name : ℕ)
+      (short : AreNamedWithin c.net (length c.net.regs.items) name) where
     abbrev note : Scan Counts → List ℕ
     note x = note_text (note_of c.net device x)
 
@@ -145,25 +166,42 @@ module _ (c : Chip Counts) (wide : capture_widths c.net ≡ widths c.net) where
     abbrev Short : List SeenCommand → List (Scan Counts) → Type 0
     Short cs xs = total (map note xs) ≤ most cs
 
-    scan_more : (from : Stable) (front : List Bool) (n len : ℕ) (p : Played) (rest : List Pins) (cs : List SeenCommand) (s : State Counts) → 0 < length p.tdi → length p.tdi ≡ len → suc n < 10000000000 → IsShaped c s
+    scan_more : (from : Stable) (front : List Bool) (n len : ℕ) (p : Played) (rest : List Pins)
+        (cs : List SeenCommand) (s : State Counts) → 0 < length p.tdi
+        → length p.tdi ≡ len → suc n < 10000000000 → IsShaped c s
         → ((t : State Counts) → IsShaped c t → Short cs (scans_of c rest t))
-        → total (map note (scans_of c (to_idle from ++ ((map no_shift front ++ (shifts (suc n) 0 p.tdi p.expects ++ map no_shift (true ∷ false ∷ []))) ++ rest)) s)) ≤ most_of_scan device (length c.net.regs.items) name len + most cs
+        → total (map note (scans_of c (to_idle from ++ ((map no_shift front
+        ++ (shifts (suc n) 0 p.tdi p.expects ++ map no_shift (true ∷ false ∷ []))) ++ rest)) s))
+        ≤ most_of_scan device (length c.net.regs.items) name len + most cs
     scan_more from front n len p rest cs s some as_long few h later =
         let one = one_scan from front n p.tdi p.expects rest s some h in
         let x = one.scan in
-        let pins = map no_shift front ++ (shifts (suc n) 0 p.tdi p.expects ++ map no_shift (true ∷ false ∷ [])) in
-        let all : scans_of c (to_idle from ++ (pins ++ rest)) s ≡ x ∷ scans_of c rest one.after = ap (λ (l : List Pins). scans_of c l s) (sym (append_assoc (to_idle from) pins rest)) ∙ one.is in
-        let here : suc (length (note x)) ≤ most_of_scan device (length c.net.regs.items) name (length x.bits) = note_short c.net is name short x.state.holds one.shaped.holds device x refl (omega (arith, few, one.numbered)) in
+        let pins = map no_shift front
+        ++ (shifts (suc n) 0 p.tdi p.expects ++ map no_shift (true ∷ false ∷ [])) in
+        let all : scans_of c (to_idle from ++ (pins ++ rest)) s ≡ x ∷ scans_of c rest one.after =
+        ap (λ (l : List Pins). scans_of c l s) (sym (append_assoc (to_idle from) pins rest)) ∙ one.is in
+        let here : suc (length (note x))
+        ≤ most_of_scan device (length c.net.regs.items) name (length x.bits) = note_short c.net is name
+        short x.state.holds one.shaped.holds device x refl (omega (arith, few, one.numbered)) in
         let sized : length x.bits ≡ len = one.sized ∙ as_long in
-        let this : suc (length (note x)) ≤ most_of_scan device (length c.net.regs.items) name len = subst (λ (m : ℕ). suc (length (note x)) ≤ most_of_scan device (length c.net.regs.items) name m) sized here in
-        let sum : total (map note (scans_of c (to_idle from ++ (pins ++ rest)) s)) ≡ suc (length (note x)) + total (map note (scans_of c rest one.after)) = ap (λ (l : List (Scan Counts)). total (map note l)) all in
+        let this : suc (length (note x)) ≤ most_of_scan device (length c.net.regs.items) name len =
+        subst (λ (m : ℕ). suc (length (note x))
+        ≤ most_of_scan device (length c.net.regs.items) name m) sized here in
+        let sum : total (map note (scans_of c (to_idle from ++ (pins ++ rest)) s))
+        ≡ suc (length (note x)) + total (map note (scans_of c rest one.after)) =
+        ap (λ (l : List (Scan Counts)). total (map note l)) all in
         omega (arith, sum, this, later one.after one.shaped_after)
 
-    quiet_more : (qs rest : List Pins) (cs : List SeenCommand) (s : State Counts) → AreQuiet qs → IsShaped c s → ((t : State Counts) → IsShaped c t → Short cs (scans_of c rest t)) → Short cs (scans_of c (qs ++ rest) s)
+    quiet_more : (qs rest : List Pins) (cs : List SeenCommand) (s : State Counts) → AreQuiet qs → IsShaped c s
+        → ((t : State Counts) → IsShaped c t → Short cs (scans_of c rest t))
+        → Short cs (scans_of c (qs ++ rest) s)
     quiet_more qs rest cs s quiet h later =
-        subst (λ (l : List (Scan Counts)). Short cs l) (sym (quiet_scans c qs rest s quiet)) (later (after_pins c qs s) (stays_shaped c qs s wide h))
+        subst (λ (l : List (Scan Counts)). Short cs l) (sym (quiet_scans c qs rest s quiet))
+        (later (after_pins c qs s) (stays_shaped c qs s wide h))
 
-    scans_short : (cs : List SeenCommand) (i d : Option ℕ) (ir dr : LastScan) (from : Stable) (n : ℕ) (s : State Counts) → Keeps i ir → Keeps d dr → AreFitAfter i d cs → n + scans_in cs < 10000000000 → IsShaped c s
+    scans_short : (cs : List SeenCommand) (i d : Option ℕ) (ir dr : LastScan) (from : Stable) (n : ℕ)
+        (s : State Counts) → Keeps i ir → Keeps d dr → AreFitAfter i d cs
+        → n + scans_in cs < 10000000000 → IsShaped c s
         → Short cs (scans_of c (pins_with ir dr from n cs) s)
     scans_short [] i d ir dr from n s ki kd fit few h =
         let none : total (map note (scans_of c (pins_with ir dr from n []) s)) ≡ 0 = refl in
@@ -171,42 +209,58 @@ module _ (c : Chip Counts) (wide : capture_widths c.net ≡ widths c.net) where
     scans_short (SIR x ∷ cs) i d ir dr from n s ki kd fit few h =
         let long = as_many i ir x ki fit.0 in
         let count : n + suc (scans_in cs) < 10000000000 = few in
-        scan_more from (true ∷ true ∷ false ∷ false ∷ []) n x.len (played ir x) (pins_with (after_scan ir x) dr InIdle (suc n) cs) cs s (omega (arith, long, fit.0.some)) long (omega (arith, count)) h
-        (λ t ht. scans_short cs (Some x.len) d (after_scan ir x) dr InIdle (suc n) t (keeps_now i ir x ki fit.0) kd fit.1 (omega (arith, count)) ht)
+        scan_more from (true ∷ true ∷ false ∷ false ∷ []) n x.len (played ir x)
+        (pins_with (after_scan ir x) dr InIdle (suc n) cs) cs s
+        (omega (arith, long, fit.0.some)) long (omega (arith, count)) h
+        (λ t ht. scans_short cs (Some x.len) d (after_scan ir x) dr InIdle (suc n) t
+        (keeps_now i ir x ki fit.0) kd fit.1 (omega (arith, count)) ht)
     scans_short (SDR x ∷ cs) i d ir dr from n s ki kd fit few h =
         let long = as_many d dr x kd fit.0 in
         let count : n + suc (scans_in cs) < 10000000000 = few in
-        scan_more from (true ∷ false ∷ false ∷ []) n x.len (played dr x) (pins_with ir (after_scan dr x) InIdle (suc n) cs) cs s (omega (arith, long, fit.0.some)) long (omega (arith, count)) h
-        (λ t ht. scans_short cs i (Some x.len) ir (after_scan dr x) InIdle (suc n) t ki (keeps_now d dr x kd fit.0) fit.1 (omega (arith, count)) ht)
+        scan_more from (true ∷ false ∷ false ∷ []) n x.len (played dr x)
+        (pins_with ir (after_scan dr x) InIdle (suc n) cs) cs s
+        (omega (arith, long, fit.0.some)) long (omega (arith, count)) h
+        (λ t ht. scans_short cs i (Some x.len) ir (after_scan dr x) InIdle (suc n) t ki
+        (keeps_now d dr x kd fit.0) fit.1 (omega (arith, count)) ht)
     scans_short (Reset ∷ cs) i d ir dr from n s ki kd fit few h =
         let this : Short cs (scans_of c (pins_with ir dr from n (Reset ∷ cs)) s) =
-        quiet_more (replicate 5 (no_shift true)) (pins_with ir dr InReset n cs) cs s (quiet_many 5 true) h (λ t ht. scans_short cs i d ir dr InReset n t ki kd fit few ht) in
+        quiet_more (replicate 5 (no_shift true)) (pins_with ir dr InReset n cs) cs s (quiet_many 5 true) h
+        (λ t ht. scans_short cs i d ir dr InReset n t ki kd fit few ht) in
         let none : most (Reset ∷ cs) ≡ 0 + most cs = refl in
         omega (arith, this, none)
     scans_short (Idle ∷ cs) i d ir dr from n s ki kd fit few h =
         let this : Short cs (scans_of c (pins_with ir dr from n (Idle ∷ cs)) s) =
-        quiet_more (to_idle from) (pins_with ir dr InIdle n cs) cs s (quiet_idle from) h (λ t ht. scans_short cs i d ir dr InIdle n t ki kd fit few ht) in
+        quiet_more (to_idle from) (pins_with ir dr InIdle n cs) cs s (quiet_idle from) h
+        (λ t ht. scans_short cs i d ir dr InIdle n t ki kd fit few ht) in
         let none : most (Idle ∷ cs) ≡ 0 + most cs = refl in
         omega (arith, this, none)
     scans_short (Run m ∷ cs) i d ir dr from n s ki kd fit few h =
         let this : Short cs (scans_of c (pins_with ir dr from n (Run m ∷ cs)) s) =
-        quiet_more (to_idle from) (replicate m (no_shift false) ++ pins_with ir dr InIdle n cs) cs s (quiet_idle from) h
-        (λ t ht. quiet_more (replicate m (no_shift false)) (pins_with ir dr InIdle n cs) cs t (quiet_many m false) ht (λ u hu. scans_short cs i d ir dr InIdle n u ki kd fit few hu)) in
+        quiet_more (to_idle from)
+        (replicate m (no_shift false) ++ pins_with ir dr InIdle n cs) cs s (quiet_idle from) h
+        (λ t ht. quiet_more (replicate m (no_shift false)) (pins_with ir dr InIdle n cs) cs t
+        (quiet_many m false) ht (λ u hu. scans_short cs i d ir dr InIdle n u ki kd fit few hu)) in
         let none : most (Run m ∷ cs) ≡ 0 + most cs = refl in
         omega (arith, this, none)
 
 -- ---- the whole text
 
-pub explained_short : (net : Net) (device : Device) (models : List SeenModel) (commands : List SeenCommand) (src : List ℕ) (name : ℕ) → IsNet net → AreFit commands → scans_in commands ≤ 1000000000 → AreNamedWithin net (length net.regs.items) name
-    → length (explained_text net device models commands src) ≤ length src + most_of device (length net.regs.items) name commands
+pub explained_short : (net : Net) (device : Device) (models : List SeenModel) (commands : List SeenCommand)
+    (src : List ℕ) (name : ℕ) → IsNet net → AreFit commands → scans_in commands ≤ 1000000000
+    → AreNamedWithin net (length net.regs.items) name
+    → length (explained_text net device models commands src)
+    ≤ length src + most_of device (length net.regs.items) name commands
 unfolding explained explained_text played_scans
 explained_short net device models commands src name is fit few short =
     let c = chip net device models in
     let wide : capture_widths net ≡ widths net = captures_wide net net.regs.items is.regs in
-    let notes = map (λ x. note_text (note_of net device x)) (scans_of c (pins_with no_scan no_scan InReset 0 commands) (power_up c)) in
-    let long : length (explained_text net device models commands src) ≤ length src + total notes = noted_short (texts (plain src)) notes src in
+    let notes = map (λ x. note_text (note_of net device x))
+    (scans_of c (pins_with no_scan no_scan InReset 0 commands) (power_up c)) in
+    let long : length (explained_text net device models commands src)
+    ≤ length src + total notes = noted_short (texts (plain src)) notes src in
     let few_notes : total notes ≤ most_of device (length net.regs.items) name commands =
-    scans_short c wide is device name short commands None None no_scan no_scan InReset 0 (power_up c) no_length no_length fit (omega (arith, few)) (is_shaped_first c) in
+    scans_short c wide is device name short commands None None no_scan no_scan InReset 0
+    (power_up c) no_length no_length fit (omega (arith, few)) (is_shaped_first c) in
     omega (arith, long, few_notes)
 
 -- ---- what is counted
@@ -216,7 +270,8 @@ pub scaled : (a b : ℕ) → min (a * b) (2 ^ 64 - 1) ≤ min (a * min b (2 ^ 64
 scaled zero b = omega arith
 scaled (suc a) b = cases (nat_lt (2 ^ 64 - 1) b) refl
   where
-    cases : (k : Bool) → nat_lt (2 ^ 64 - 1) b ≡ k → min (suc a * b) (2 ^ 64 - 1) ≤ min (suc a * min b (2 ^ 64 - 1)) (2 ^ 64 - 1)
+    cases : (k : Bool) → nat_lt (2 ^ 64 - 1) b ≡ k
+        → min (suc a * b) (2 ^ 64 - 1) ≤ min (suc a * min b (2 ^ 64 - 1)) (2 ^ 64 - 1)
     cases true e =
         let more : 2 ^ 64 - 1 < b = grind (arith, nat_tests) in
         omega (arith, more, suc-mul a (min b (2 ^ 64 - 1)))

@@ -1,5 +1,7 @@
 -- A note is read again: its number and its rows.
-use Rattle.std.proofs.Common.{◌≡◌, ◌<◌, ◌≤◌, ◌^◌, ℕ, ◌+◌, ◌-◌, Bool, true, false, cond, Option, Some, None, List, [], ◌∷◌, ◌++◌, length, take, drop, map, refl, ap, sym, ◌∙◌, arith, append_assoc, append-nil, length-append, decimal}
+use Rattle.std.proofs.Common.{◌≡◌, ◌<◌, ◌≤◌, ◌^◌, ℕ, ◌+◌, ◌-◌, Bool, true, false, cond, Option, Some, None}
+use Rattle.std.proofs.Common.{List, [], ◌∷◌, ◌++◌, length, take, drop, map, refl, ap, sym, ◌∙◌, arith}
+use Rattle.std.proofs.Common.{append_assoc, append-nil, length-append, decimal}
 use Rattle.std.specs.Prelude.{◌==◌, codes}
 use Rattle.std.specs.Char.{is_ascii_digit}
 use Rattle.std.specs.List.{AllByRecursion, list_any}
@@ -30,8 +32,12 @@ use Rattle.svf_notes.specs.declared.scan.Shifted.{Shifted}
 use Rattle.svf_notes.specs.declared.scan.Shown.{Shown}
 use Rattle.svf_notes.specs.declared.scan.Shown.TheVariants.{Written, Expected, Found}
 use Rattle.svf_notes.specs.Noted.{path_rows, register_row, said_of, scan_rows, some_if}
-use Rattle.svf_notes.specs.Notes.{Target, Instruction, Data, differs, digit_of, digits, expected_digit, if_compared, is_compared, note_of, note_text, number_text, opcode_text, other_length, path_length, range_text, row, rows, rows_if, target, target_rows, target_text, tdi_bits, values_text}
-use Rattle.svf_notes.specs.Reader.{ReadNote, ReadRow, note_in, note_of_words, note_with, read_note, read_row, read_rows, row_and, row_at, row_of, row_with}
+use Rattle.svf_notes.specs.Notes.{Target, Instruction, Data, differs, digit_of, digits, expected_digit}
+use Rattle.svf_notes.specs.Notes.{if_compared, is_compared, note_of, note_text, number_text, opcode_text}
+use Rattle.svf_notes.specs.Notes.{other_length, path_length, range_text, row, rows, rows_if, target}
+use Rattle.svf_notes.specs.Notes.{target_rows, target_text, tdi_bits, values_text}
+use Rattle.svf_notes.specs.Reader.{ReadNote, ReadRow, note_in, note_of_words, note_with, read_note, read_row}
+use Rattle.svf_notes.specs.Reader.{read_rows, row_and, row_at, row_of, row_with}
 use Rattle.svf_notes.specs.Scans.{Scan}
 use Rattle.svf_notes.proofs.InWords.{InWord, both_in, decimal_in, label_in, label_some, other_byte}
 use Rattle.svf_notes.proofs.OnLine.{notes_on}
@@ -52,12 +58,14 @@ is_itself c xs ys =
 split_first : (c : ℕ) (w xs : List ℕ) → Without c w → split c (w ++ c ∷ xs) ≡ w ∷ split c xs
 split_first c [] xs h = is_itself c ([] ∷ split c xs) (before c (split c xs))
 split_first c (b ∷ bs) xs h =
-    ap (λ (k : Bool). cond k ([] ∷ split c (bs ++ c ∷ xs)) (before b (split c (bs ++ c ∷ xs)))) h.0 ∙ ap (before b) (split_first c bs xs h.1)
+    ap (λ (k : Bool). cond k ([] ∷ split c (bs ++ c ∷ xs)) (before b (split c (bs ++ c ∷ xs)))) h.0
+    ∙ ap (before b) (split_first c bs xs h.1)
 
 split_last : (c : ℕ) (w : List ℕ) → Without c w → split c w ≡ w ∷ []
 split_last c [] h = refl
 split_last c (b ∷ bs) h =
-    ap (λ (k : Bool). cond k ([] ∷ split c bs) (before b (split c bs))) h.0 ∙ ap (before b) (split_last c bs h.1)
+    ap (λ (k : Bool). cond k ([] ∷ split c bs) (before b (split c bs))) h.0
+    ∙ ap (before b) (split_last c bs h.1)
 
 without_feed : (w : List ℕ) → IsOnLine w → Without 10 w
 without_feed [] on = tt
@@ -72,20 +80,25 @@ without_dot (b ∷ bs) h = (other_byte is_ascii_digit b 46 h.0.digit refl, witho
 abbrev marked : List ℕ → List ℕ
 marked line = codes "!:" ++ line
 
-lines_cut : (lines : List (List ℕ)) (rest : List ℕ) → AllByRecursion IsOnLine lines → split 10 (note_text lines ++ 10 ∷ rest) ≡ [] ∷ (map marked lines ++ split 10 rest)
+lines_cut : (lines : List (List ℕ)) (rest : List ℕ) → AllByRecursion IsOnLine lines
+    → split 10 (note_text lines ++ 10 ∷ rest) ≡ [] ∷ (map marked lines ++ split 10 rest)
 lines_cut [] rest on = refl
 lines_cut (line ∷ lines) rest on =
     let tail = after_lines lines rest in
-    let later : [] ∷ split 10 tail.0 ≡ [] ∷ (map marked lines ++ split 10 rest) = ap (split 10) (sym tail.1) ∙ lines_cut lines rest on.1 in
+    let later : [] ∷ split 10 tail.0 ≡ [] ∷ (map marked lines ++ split 10 rest) =
+    ap (split 10) (sym tail.1) ∙ lines_cut lines rest on.1 in
     let others : split 10 tail.0 ≡ map marked lines ++ split 10 rest = cc in
-    let whole : (line ++ note_text lines) ++ 10 ∷ rest ≡ line ++ 10 ∷ tail.0 = append_assoc line (note_text lines) (10 ∷ rest) ∙ ap (λ (l : List ℕ). line ++ l) tail.1 in
+    let whole : (line ++ note_text lines) ++ 10 ∷ rest ≡ line ++ 10 ∷ tail.0 =
+    append_assoc line (note_text lines) (10 ∷ rest) ∙ ap (λ (l : List ℕ). line ++ l) tail.1 in
     ap (λ (l : List ℕ). [] ∷ split 10 (33 ∷ 58 ∷ l)) whole
-    ∙ ap (λ (l : List (List ℕ)). [] ∷ l) (split_first 10 (33 ∷ 58 ∷ line) tail.0 (refl, (refl, without_feed line on.0)))
+    ∙ ap (λ (l : List (List ℕ)). [] ∷ l)
+    (split_first 10 (33 ∷ 58 ∷ line) tail.0 (refl, (refl, without_feed line on.0)))
     ∙ ap (λ (l : List (List ℕ)). [] ∷ (marked line ∷ l)) others
 
 -- ---- words
 
-word_run : (w rest : List ℕ) → 1 ≤ length w → InWord w → goes_on is_any rest ≡ false → runs (w ++ rest) ≡ w ∷ runs rest
+word_run : (w rest : List ℕ) → 1 ≤ length w → InWord w
+    → goes_on is_any rest ≡ false → runs (w ++ rest) ≡ w ∷ runs rest
 word_run [] rest some h stops = absurd (omega (arith, some))
 word_run (b ∷ bs) rest some h stops = word_cut is_any b bs rest h stops
 
@@ -117,7 +130,8 @@ digit_in Found b = found_in b.expect b.found
 
 digits_in : (shown : Shown) (bits : List Shifted) → InWord (digits shown bits)
 digits_in shown [] = tt
-digits_in shown (b ∷ bs) = both_in (digits shown bs) (digit_of shown b ∷ []) (digits_in shown bs) (digit_in shown b, refl, tt)
+digits_in shown (b ∷ bs) =
+    both_in (digits shown bs) (digit_of shown b ∷ []) (digits_in shown bs) (digit_in shown b, refl, tt)
 
 digits_some : (shown : Shown) (bits : List Shifted) → 1 ≤ length bits → 1 ≤ length (digits shown bits)
 digits_some shown [] some = absurd (omega (arith, some))
@@ -154,17 +168,21 @@ module _ (bits : List Shifted) (some : 1 ≤ length bits) where
   before_stop true k l = refl
   before_stop false k l = expects_stop k l
 
-  word_of : (shown : Shown) (rest : List ℕ) → goes_on is_any rest ≡ false → runs (digits shown bits ++ rest) ≡ digits shown bits ∷ runs rest
-  word_of shown rest stops = word_run (digits shown bits) rest (digits_some shown bits some) (digits_in shown bits) stops
+  word_of : (shown : Shown) (rest : List ℕ) → goes_on is_any rest ≡ false
+      → runs (digits shown bits ++ rest) ≡ digits shown bits ∷ runs rest
+  word_of shown rest stops =
+      word_run (digits shown bits) rest (digits_some shown bits some) (digits_in shown bits) stops
 
   finds_read : (l : Bool) → runs (finds_text l) ≡ finds_words l
   finds_read true =
-      ap (λ (w : List ℕ). codes "finds" ∷ runs w) (sym (append-nil (digits Found bits))) ∙ ap (λ (ws : List (List ℕ)). codes "finds" ∷ ws) (word_of Found [] refl)
+      ap (λ (w : List ℕ). codes "finds" ∷ runs w) (sym (append-nil (digits Found bits)))
+      ∙ ap (λ (ws : List (List ℕ)). codes "finds" ∷ ws) (word_of Found [] refl)
   finds_read false = refl
 
   expects_read : (k l : Bool) → runs (expects_text k ++ finds_text l) ≡ expects_words k l
   expects_read true l =
-      ap (λ (ws : List (List ℕ)). codes "expects" ∷ ws) (word_of Expected (finds_text l) (finds_stop l) ∙ ap (λ (ws : List (List ℕ)). digits Expected bits ∷ ws) (finds_read l))
+      ap (λ (ws : List (List ℕ)). codes "expects" ∷ ws) (word_of Expected (finds_text l) (finds_stop l)
+      ∙ ap (λ (ws : List (List ℕ)). digits Expected bits ∷ ws) (finds_read l))
   expects_read false l = finds_read l
 
   before_some : 1 ≤ length (codes "before")
@@ -182,16 +200,27 @@ module _ (bits : List Shifted) (some : 1 ≤ length bits) where
       ∙ ap (λ (ws : List (List ℕ)). codes "before" ∷ ws) (expects_read k l))
   before_read false k l = expects_read k l
 
-  values_read : (held : List Bool) → runs (values_text held bits) ≡ codes "writes" ∷ digits Written bits ∷ before_words (bits_eq (tdi_bits bits) held) (list_any is_compared bits) (list_any differs bits)
+  values_read : (held : List Bool) → runs (values_text held bits) ≡ codes "writes" ∷ digits Written bits
+      ∷ before_words (bits_eq (tdi_bits bits) held) (list_any is_compared bits) (list_any differs bits)
   values_read held =
       let j = bits_eq (tdi_bits bits) held in
       let k = list_any is_compared bits in
       let l = list_any differs bits in
       ap (λ (ws : List (List ℕ)). codes "writes" ∷ ws)
-      (word_of Written (before_text j ++ (expects_text k ++ finds_text l)) (before_stop j k l) ∙ ap (λ (ws : List (List ℕ)). digits Written bits ∷ ws) (before_read j k l))
+      (word_of Written (before_text j ++ (expects_text k ++ finds_text l)) (before_stop j k l)
+      ∙ ap (λ (ws : List (List ℕ)). digits Written bits ∷ ws) (before_read j k l))
 
   row_values : (j k l : Bool) (high low : ℕ) (name : List ℕ)
-      → row_with high low name (digits Written bits) (before_words j k l) ≡ record { high = high; low = low; name = name; writes = digits Written bits; as_before = j; expects = some_if k (digits Expected bits); finds = some_if l (digits Found bits) }
+      → row_with high low name (digits Written bits) (before_words j k l)
+      ≡ record {
+        high = high;
+        low = low;
+        name = name;
+        writes = digits Written bits;
+        as_before = j;
+        expects = some_if k (digits Expected bits);
+        finds = some_if l (digits Found bits);
+      }
   row_values true true true high low name = refl
   row_values true true false high low name = refl
   row_values true false true high low name = refl
@@ -203,7 +232,8 @@ module _ (bits : List Shifted) (some : 1 ≤ length bits) where
 
 -- ---- a row
 
-module _ (net : Net) (is : IsNet net) (r at : ℕ) (held : List Bool) (bits : List Shifted) (some : 1 ≤ length bits) (there : r < length net.regs.items) (few : at + length held < 10 ^ 10) where
+module _ (net : Net) (is : IsNet net) (r at : ℕ) (held : List Bool) (bits : List Shifted)
+    (some : 1 ≤ length bits) (there : r < length net.regs.items) (few : at + length held < 10 ^ 10) where
   abbrev high : ℕ
   high = at + length held - 1
 
@@ -238,25 +268,31 @@ module _ (net : Net) (is : IsNet net) (r at : ℕ) (held : List Bool) (bits : Li
       ∙ ap (λ (l : List ℕ). positions ++ 32 ∷ l) (sym (append_assoc name range values)))
 
   positions_in : InWord positions
-  positions_in = both_in (decimal high) (codes ".." ++ decimal at) (decimal_in high) (refl, refl, (refl, refl, decimal_in at))
+  positions_in = both_in (decimal high) (codes ".." ++ decimal at) (decimal_in high)
+      (refl, refl, (refl, refl, decimal_in at))
 
   positions_some : 1 ≤ length positions
   positions_some =
-      let two : length (codes ".." ++ decimal at) ≡ 2 + length (decimal at) = length-append (codes "..") (decimal at) in
+      let two : length (codes ".." ++ decimal at)
+      ≡ 2 + length (decimal at) = length-append (codes "..") (decimal at) in
       omega (arith, two, length-append (decimal high) (codes ".." ++ decimal at))
 
-  words_are : runs (marked (row net r at held bits)) ≡ codes "!:" ∷ positions ∷ label ∷ runs (values_text held bits)
+  words_are : runs (marked (row net r at held bits))
+      ≡ codes "!:" ∷ positions ∷ label ∷ runs (values_text held bits)
   words_are =
       ap (λ (l : List ℕ). runs (marked l)) row_is
-      ∙ ap (λ (l : List (List ℕ)). codes "!:" ∷ l) (word_run positions (32 ∷ (label ++ values_text held bits)) positions_some positions_in refl)
-      ∙ ap (λ (l : List (List ℕ)). codes "!:" ∷ (positions ∷ l)) (word_run label (values_text held bits) (label_some net r (length held) is there) (label_in net r (length held) is) refl)
+      ∙ ap (λ (l : List (List ℕ)). codes "!:" ∷ l)
+      (word_run positions (32 ∷ (label ++ values_text held bits)) positions_some positions_in refl)
+      ∙ ap (λ (l : List (List ℕ)). codes "!:" ∷ (positions ∷ l)) (word_run label (values_text held bits)
+      (label_some net r (length held) is there) (label_in net r (length held) is) refl)
 
   parts_are : split 46 positions ≡ decimal high ∷ [] ∷ decimal at ∷ []
   parts_are =
       let top = decimal_written high (omega (arith, few)) in
       let bottom = decimal_written at (omega (arith, few)) in
       split_first 46 (decimal high) (46 ∷ decimal at) (without_dot (decimal high) top.bytes)
-      ∙ ap (λ (l : List (List ℕ)). decimal high ∷ [] ∷ l) (split_last 46 (decimal at) (without_dot (decimal at) bottom.bytes))
+      ∙ ap (λ (l : List (List ℕ)). decimal high ∷ [] ∷ l)
+      (split_last 46 (decimal at) (without_dot (decimal at) bottom.bytes))
 
   row_told : read_row (runs (marked (row net r at held bits))) ≡ Some told_row
   row_told =
@@ -265,45 +301,60 @@ module _ (net : Net) (is : IsNet net) (r at : ℕ) (held : List Bool) (bits : Li
       let l = list_any differs bits in
       let later = before_words bits some j k l in
       let writes : Option (List ℕ) = Some (digits Written bits) in
-      ap read_row (words_are ∙ ap (λ (ws : List (List ℕ)). codes "!:" ∷ (positions ∷ label ∷ ws)) (values_read bits some held))
+      ap read_row (words_are
+      ∙ ap (λ (ws : List (List ℕ)). codes "!:" ∷ (positions ∷ label ∷ ws)) (values_read bits some held))
       ∙ ap (λ (ws : List (List ℕ)). row_at ws label (codes "writes" ∷ digits Written bits ∷ later)) parts_are
-      ∙ ap (λ (o : Option ℕ). row_of o (number (decimal at)) label writes later) (number_again high (omega (arith, few)))
+      ∙ ap (λ (o : Option ℕ). row_of o (number (decimal at)) label writes later)
+      (number_again high (omega (arith, few)))
       ∙ ap (λ (o : Option ℕ). row_of (Some high) o label writes later) (number_again at (omega (arith, few)))
       ∙ ap (λ (x : ReadRow). let o : Option ReadRow = Some x in o) (row_values bits some j k l high at label)
 
 -- ---- rows
 
-last_line : (xs : List (List ℕ)) (x : List ℕ) (more : List (List ℕ)) → map marked (xs ++ x ∷ []) ++ more ≡ map marked xs ++ marked x ∷ more
+last_line : (xs : List (List ℕ)) (x : List ℕ) (more : List (List ℕ))
+    → map marked (xs ++ x ∷ []) ++ more ≡ map marked xs ++ marked x ∷ more
 last_line [] x more = refl
 last_line (y ∷ ys) x more = ap (λ (l : List (List ℕ)). marked y ∷ l) (last_line ys x more)
 
 module _ (net : Net) (is : IsNet net) (holds : Holds) (held : AreHolds net holds) (bits : List Shifted) where
   -- a row, and what stands after it
-  row_then : (r at : ℕ) (more : List (List ℕ)) → r < length net.regs.items → at + length (bits_at holds r) ≤ length bits → at + length (bits_at holds r) ≤ 5000
-      → read_rows (marked (row net r at (bits_at holds r) (take (length (bits_at holds r)) (drop at bits))) ∷ more) ≡ register_row net holds bits at r ∷ cond (at == 0) [] (read_rows more)
+  row_then : (r at : ℕ) (more : List (List ℕ)) → r < length net.regs.items
+      → at + length (bits_at holds r) ≤ length bits → at + length (bits_at holds r) ≤ 5000
+      → read_rows (marked (row net r at (bits_at holds r) (take (length (bits_at holds r)) (drop at bits)))
+      ∷ more) ≡ register_row net holds bits at r ∷ cond (at == 0) [] (read_rows more)
   row_then r at more there within few =
       let w = length (bits_at holds r) in
       let wide : 1 ≤ w = some_bits net holds r is held there in
-      let some : 1 ≤ length (take w (drop at bits)) = omega (arith, wide, within, length-take w (drop at bits), length-drop at bits) in
-      ap (λ (o : Option ReadRow). row_and o (read_rows more)) (row_told net is r at (bits_at holds r) (take w (drop at bits)) some there (omega (arith, few)))
+      let some : 1 ≤ length (take w (drop at bits)) =
+      omega (arith, wide, within, length-take w (drop at bits), length-drop at bits) in
+      ap (λ (o : Option ReadRow). row_and o (read_rows more))
+      (row_told net is r at (bits_at holds r) (take w (drop at bits)) some there (omega (arith, few)))
 
-  inner_rows : (path : List ℕ) (at : ℕ) (more : List (List ℕ)) → IsRoute (length net.regs.items) path → 1 ≤ at → at + length (chain path holds) ≤ length bits → at + length (chain path holds) ≤ 5000
-      → read_rows (map marked (rows net holds at path (drop at bits)) ++ more) ≡ path_rows net holds bits at path ++ read_rows more
+  inner_rows : (path : List ℕ) (at : ℕ) (more : List (List ℕ)) → IsRoute (length net.regs.items) path → 1 ≤ at
+      → at + length (chain path holds) ≤ length bits → at + length (chain path holds) ≤ 5000
+      → read_rows (map marked (rows net holds at path (drop at bits)) ++ more)
+      ≡ path_rows net holds bits at path ++ read_rows more
   inner_rows [] at more route some within few = refl
   inner_rows (r ∷ rs) at more route some within few =
       let w = length (bits_at holds r) in
       let line = row net r at (bits_at holds r) (take w (drop at bits)) in
-      let all : length (chain (r ∷ rs) holds) ≡ w + length (chain rs holds) = length-append (bits_at holds r) (chain rs holds) in
+      let all : length (chain (r ∷ rs) holds)
+      ≡ w + length (chain rs holds) = length-append (bits_at holds r) (chain rs holds) in
       let not_last : (at == 0) ≡ false = grind (arith, nat_tests) in
       let told : ReadRow = register_row net holds bits at r in
-      ap (λ (l : List Shifted). read_rows (map marked (rows net holds (at + w) rs l ++ line ∷ []) ++ more)) (drop-drop w at bits)
+      ap (λ (l : List Shifted). read_rows (map marked (rows net holds (at + w) rs l ++ line ∷ []) ++ more))
+      (drop-drop w at bits)
       ∙ ap read_rows (last_line (rows net holds (at + w) rs (drop (at + w) bits)) line more)
-      ∙ inner_rows rs (at + w) (marked line ∷ more) route.2 (omega (arith, some)) (omega (arith, within, all)) (omega (arith, few, all))
-      ∙ ap (λ (l : List ReadRow). path_rows net holds bits (at + w) rs ++ l) (row_then r at more route.0 (omega (arith, within, all)) (omega (arith, few, all)) ∙ ap (λ (k : Bool). told ∷ cond k [] (read_rows more)) not_last)
+      ∙ inner_rows rs (at + w) (marked line ∷ more) route.2 (omega (arith, some))
+      (omega (arith, within, all)) (omega (arith, few, all))
+      ∙ ap (λ (l : List ReadRow). path_rows net holds bits (at + w) rs ++ l)
+      (row_then r at more route.0 (omega (arith, within, all)) (omega (arith, few, all))
+      ∙ ap (λ (k : Bool). told ∷ cond k [] (read_rows more)) not_last)
       ∙ sym (append_assoc (path_rows net holds bits (at + w) rs) (told ∷ []) (read_rows more))
 
   -- position 0 is in the last row
-  all_rows : (path : List ℕ) (more : List (List ℕ)) → IsRoute (length net.regs.items) path → 1 ≤ length bits → length bits ≡ length (chain path holds) → length (chain path holds) ≤ 4096
+  all_rows : (path : List ℕ) (more : List (List ℕ)) → IsRoute (length net.regs.items) path → 1 ≤ length bits
+      → length bits ≡ length (chain path holds) → length (chain path holds) ≤ 4096
       → read_rows (map marked (rows net holds 0 path bits) ++ more) ≡ path_rows net holds bits 0 path
   all_rows [] more route some same few =
       let none : length (chain [] holds) ≡ 0 = refl in
@@ -311,59 +362,87 @@ module _ (net : Net) (is : IsNet net) (holds : Holds) (held : AreHolds net holds
   all_rows (r ∷ rs) more route some same few =
       let w = length (bits_at holds r) in
       let line = row net r 0 (bits_at holds r) (take w bits) in
-      let all : length (chain (r ∷ rs) holds) ≡ w + length (chain rs holds) = length-append (bits_at holds r) (chain rs holds) in
+      let all : length (chain (r ∷ rs) holds)
+      ≡ w + length (chain rs holds) = length-append (bits_at holds r) (chain rs holds) in
       let wide : 1 ≤ w = some_bits net holds r is held route.0 in
       let place : 0 + w ≡ w = omega arith in
-      ap (λ (l : List Shifted). read_rows (map marked (rows net holds (0 + w) rs l ++ line ∷ []) ++ more)) (ap (λ (n : ℕ). drop n bits) (sym place))
+      ap (λ (l : List Shifted). read_rows (map marked (rows net holds (0 + w) rs l ++ line ∷ []) ++ more))
+      (ap (λ (n : ℕ). drop n bits) (sym place))
       ∙ ap read_rows (last_line (rows net holds (0 + w) rs (drop (0 + w) bits)) line more)
-      ∙ inner_rows rs (0 + w) (marked line ∷ more) route.2 (omega (arith, wide)) (omega (arith, same, all)) (omega (arith, few, all))
-      ∙ ap (λ (l : List ReadRow). path_rows net holds bits (0 + w) rs ++ l) (row_then r 0 more route.0 (omega (arith, same, all)) (omega (arith, few, all)))
+      ∙ inner_rows rs (0 + w) (marked line ∷ more) route.2 (omega (arith, wide))
+      (omega (arith, same, all)) (omega (arith, few, all))
+      ∙ ap (λ (l : List ReadRow). path_rows net holds bits (0 + w) rs ++ l)
+      (row_then r 0 more route.0 (omega (arith, same, all)) (omega (arith, few, all)))
 
 -- ---- a note
 
-first_told : (n : ℕ) (text what : List ℕ) (ws : List (List ℕ)) (rs : List ReadRow) → n < 10 ^ 10 → goes_on is_any text ≡ false → runs text ≡ what ∷ ws
-    → note_of_words (runs (marked (number_text n ++ text))) rs ≡ Some (record { scan = n; rows = cond (bytes_eq what (codes "path")) rs [] })
+first_told : (n : ℕ) (text what : List ℕ) (ws : List (List ℕ)) (rs : List ReadRow) → n < 10 ^ 10
+    → goes_on is_any text ≡ false → runs text ≡ what ∷ ws
+    → note_of_words (runs (marked (number_text n ++ text))) rs
+    ≡ Some (record { scan = n; rows = cond (bytes_eq what (codes "path")) rs [] })
 first_told n text what ws rs few stops is =
     let path = cond (bytes_eq what (codes "path")) rs [] in
-    ap (λ (l : List (List ℕ)). note_of_words (codes "!:" ∷ codes "scan" ∷ l) rs) (word_run (decimal n) text (decimal_some n few) (decimal_in n) stops ∙ ap (λ (l : List (List ℕ)). decimal n ∷ l) is)
+    ap (λ (l : List (List ℕ)). note_of_words (codes "!:" ∷ codes "scan" ∷ l) rs) (word_run (decimal n) text
+    (decimal_some n few) (decimal_in n) stops ∙ ap (λ (l : List (List ℕ)). decimal n ∷ l) is)
     ∙ ap (λ (o : Option ℕ). note_with o path) (number_again n few)
 
-module _ (net : Net) (is : IsNet net) (device : Device) (x : Scan Counts) (few : x.number < 10 ^ 10) (some : 1 ≤ length x.bits) (held : AreHolds net x.state.holds) (more : List (List ℕ)) where
+module _ (net : Net) (is : IsNet net) (device : Device) (x : Scan Counts) (few : x.number < 10 ^ 10)
+    (some : 1 ≤ length x.bits) (held : AreHolds net x.state.holds) (more : List (List ℕ)) where
   abbrev Told : Target → Type 0
   Told t =
-      note_of_words (runs (marked (number_text x.number ++ target_text net device x t))) (read_rows (map marked (target_rows net x t) ++ more)) ≡ Some (record { scan = x.number; rows = scan_rows net x t })
+      note_of_words (runs (marked (number_text x.number ++ target_text net device x t)))
+      (read_rows (map marked (target_rows net x t) ++ more))
+      ≡ Some (record { scan = x.number; rows = scan_rows net x t })
 
-  told_other : (register : List ℕ) (len : ℕ) (rs : List ReadRow) → note_of_words (runs (marked (number_text x.number ++ other_length register (length x.bits) len))) rs ≡ Some (record { scan = x.number; rows = [] })
+  told_other : (register : List ℕ) (len : ℕ) (rs : List ReadRow)
+      → note_of_words (runs (marked (number_text x.number ++ other_length register (length x.bits) len))) rs
+      ≡ Some (record { scan = x.number; rows = [] })
   told_other register len rs =
-      first_told x.number (other_length register (length x.bits) len) (codes "has") (runs (decimal (length x.bits) ++ (codes " bits, the " ++ (register ++ decimal len)))) rs few refl refl
+      first_told x.number (other_length register (length x.bits) len) (codes "has") (runs
+      (decimal (length x.bits) ++ (codes " bits, the " ++ (register ++ decimal len)))) rs few refl refl
 
   told_instruction : (k : Bool) (rs : List ReadRow)
-      → note_of_words (runs (marked (number_text x.number ++ cond k (opcode_text device (tdi_bits x.bits)) (other_length (codes "instruction register ") (length x.bits) device.ir)))) rs ≡ Some (record { scan = x.number; rows = [] })
-  told_instruction true rs = first_told x.number (opcode_text device (tdi_bits x.bits)) (codes "instruction") _ rs few refl refl
+      → note_of_words (runs (marked (number_text x.number ++ cond k (opcode_text device (tdi_bits x.bits))
+      (other_length (codes "instruction register ") (length x.bits) device.ir)))) rs
+      ≡ Some (record { scan = x.number; rows = [] })
+  told_instruction true rs =
+      first_told x.number (opcode_text device (tdi_bits x.bits)) (codes "instruction") _ rs few refl refl
   told_instruction false rs = told_other (codes "instruction register ") device.ir rs
 
   abbrev len : ℕ
   len = path_length net x.state.holds
 
   told_path : (k : Bool) → (length x.bits == len) ≡ k
-      → note_of_words (runs (marked (number_text x.number ++ cond k (codes " path " ++ decimal len) (other_length (codes "path ") (length x.bits) len)))) (read_rows (map marked (rows_if k net x.state.holds x.bits) ++ more))
-      ≡ Some (record { scan = x.number; rows = cond k (path_rows net x.state.holds x.bits 0 (route_of net x.state.holds)) [] })
+      → note_of_words (runs (marked (number_text x.number
+      ++ cond k (codes " path " ++ decimal len) (other_length (codes "path ") (length x.bits) len))))
+      (read_rows (map marked (rows_if k net x.state.holds x.bits) ++ more))
+      ≡ Some (record {
+        scan = x.number;
+        rows =
+            cond k (path_rows net x.state.holds x.bits 0 (route_of net x.state.holds)) [];
+      })
   told_path true e =
       let holds = x.state.holds in
       let route = route_of net holds in
       let same : length x.bits ≡ len = grind (arith, nat_tests) in
-      let rs = all_rows net is holds held x.bits route more (route_is net holds is) some same (path_short net holds is held) in
-      first_told x.number (codes " path " ++ decimal len) (codes "path") (runs (decimal len)) (read_rows (map marked (rows net holds 0 route x.bits) ++ more)) few refl refl
+      let rs = all_rows net is holds held x.bits route more
+      (route_is net holds is) some same (path_short net holds is held) in
+      first_told x.number (codes " path " ++ decimal len) (codes "path") (runs (decimal len))
+      (read_rows (map marked (rows net holds 0 route x.bits) ++ more)) few refl refl
       ∙ ap (λ (l : List ReadRow). let n : ReadNote = record { scan = x.number; rows = l } in Some n) rs
   told_path false e = told_other (codes "path ") len (read_rows (map marked [] ++ more))
 
   told : (t : Target) → Told t
   told Instruction = told_instruction (length x.bits == device.ir) (read_rows more)
   told (Data Network) = told_path (length x.bits == len) refl
-  told (Data Identity) = first_told x.number (codes " identity") (codes "identity") [] (read_rows more) few refl refl
-  told (Data Bypass) = first_told x.number (codes " bypass") (codes "bypass") [] (read_rows more) few refl refl
+  told (Data Identity) =
+      first_told x.number (codes " identity") (codes "identity") [] (read_rows more) few refl refl
+  told (Data Bypass) = first_told x.number (codes " bypass")
+      (codes "bypass") [] (read_rows more) few refl refl
 
-pub note_read : (net : Net) (device : Device) (x : Scan Counts) (rest : List ℕ) → IsNet net → x.number < 10 ^ 10 → 1 ≤ length x.bits → AreHolds net x.state.holds → read_note (note_text (note_of net device x) ++ 10 ∷ rest) ≡ Some (said_of net device x)
+pub note_read : (net : Net) (device : Device) (x : Scan Counts) (rest : List ℕ) → IsNet net
+    → x.number < 10 ^ 10 → 1 ≤ length x.bits → AreHolds net x.state.holds
+    → read_note (note_text (note_of net device x) ++ 10 ∷ rest) ≡ Some (said_of net device x)
 note_read net device x rest is few some held =
     let t = target device x.state in
     let on = (notes_on net device (x ∷ []) is).0 in

@@ -1,5 +1,6 @@
 -- The scans of a play are those of its commands, in their order.
-use Rattle.std.proofs.Common.{◌≡◌, ℕ, zero, suc, ◌<◌, Bool, true, false, cond, Option, List, [], ◌∷◌, ◌++◌, length, drop, map, refl, ap, ◌∙◌, arith}
+use Rattle.std.proofs.Common.{◌≡◌, ℕ, zero, suc, ◌<◌, Bool, true, false, cond, Option, List, [], ◌∷◌, ◌++◌}
+use Rattle.std.proofs.Common.{length, drop, map, refl, ap, ◌∙◌, arith}
 use Rattle.std.specs.Prelude.{◌==◌, replicate}
 use Rattle.std.proofs.lemmas.Bool.Decides.{nat_tests}
 use Rattle.instruments.specs.declared.Counts.{Counts}
@@ -7,7 +8,8 @@ use Rattle.svf_writer.specs.SeenCommands.{SIR, SDR, Reset, Idle, Run, SeenComman
 use Rattle.tap_machine.specs.declared.Pins.{Pins}
 use Rattle.tap_machine.specs.declared.Stable.{Stable}
 use Rattle.tap_machine.specs.declared.Stable.TheVariants.{Reset as InReset, Idle as InIdle}
-use Rattle.tap_machine.specs.Play.{LastScan, Played, after_scan, no_scan, no_shift, pins_with, played, scans_in, sdr_pins, shifts, sir_pins, to_idle}
+use Rattle.tap_machine.specs.Play.{LastScan, Played, after_scan, no_scan, no_shift, pins_with, played}
+use Rattle.tap_machine.specs.Play.{scans_in, sdr_pins, shifts, sir_pins, to_idle}
 use Rattle.net_bench.specs.Bench.{Chip, State, clock, tdo}
 use Rattle.svf_notes.specs.declared.scan.Shifted.{Shifted}
 use Rattle.svf_notes.specs.Laws.{HaveBits, ScansAreNumbered, counted}
@@ -28,21 +30,28 @@ led_same : (b : Shifted) (xs : List (Scan Counts)) → numbers (led_by b xs) ≡
 led_same b [] = refl
 led_same b (x ∷ xs) = refl
 
-clock_numbers : (none last : Bool) (p : Pins) (found : Bool) (after : State Counts) (later : List (Scan Counts))
-    → numbers (cond none later (cond last (last_bit p found after ∷ later) (led_by (shifted_at p found) later))) ≡ cond none (numbers later) (cond last (p.scan ∷ numbers later) (numbers later))
+clock_numbers : (none last : Bool) (p : Pins) (found : Bool)
+    (after : State Counts) (later : List (Scan Counts))
+    → numbers
+    (cond none later (cond last (last_bit p found after ∷ later) (led_by (shifted_at p found) later)))
+    ≡ cond none (numbers later) (cond last (p.scan ∷ numbers later) (numbers later))
 clock_numbers true last p found after later = refl
 clock_numbers false true p found after later = refl
 clock_numbers false false p found after later = led_same (shifted_at p found) later
 
-numbers_are : (chip : Chip Counts) (ps : List Pins) (s : State Counts) → numbers (scans_of chip ps s) ≡ numbers_in ps
+numbers_are : (chip : Chip Counts) (ps : List Pins) (s : State Counts)
+    → numbers (scans_of chip ps s) ≡ numbers_in ps
 numbers_are chip [] s = refl
 numbers_are chip (p ∷ ps) s =
     let after = clock chip p.tms p.tdi s in
-    clock_numbers (p.scan == 0) p.tms p (tdo chip s) after (scans_of chip ps after) ∙ ap (numbers_at p) (numbers_are chip ps after)
+    clock_numbers (p.scan == 0) p.tms p (tdo chip s) after (scans_of chip ps after)
+    ∙ ap (numbers_at p) (numbers_are chip ps after)
 
 -- ---- one list of pins after another
 
-at_joined : (none last : Bool) (n : ℕ) (ns ms : List ℕ) → cond none (ns ++ ms) (cond last (n ∷ (ns ++ ms)) (ns ++ ms)) ≡ cond none ns (cond last (n ∷ ns) ns) ++ ms
+at_joined : (none last : Bool) (n : ℕ) (ns ms : List ℕ)
+    → cond none (ns ++ ms) (cond last (n ∷ (ns ++ ms)) (ns ++ ms))
+    ≡ cond none ns (cond last (n ∷ ns) ns) ++ ms
 at_joined true last n ns ms = refl
 at_joined false true n ns ms = refl
 at_joined false false n ns ms = refl
@@ -72,7 +81,8 @@ quiet_idle InIdle = refl
 not_none : (n : ℕ) → (suc n == 0) ≡ false
 not_none n = grind (arith, nat_tests)
 
-shift_numbers : (n k : ℕ) (t : Bool) (ts : List Bool) (es : List (Option Bool)) → numbers_in (shifts (suc n) k (t ∷ ts) es) ≡ suc n ∷ []
+shift_numbers : (n k : ℕ) (t : Bool) (ts : List Bool) (es : List (Option Bool))
+    → numbers_in (shifts (suc n) k (t ∷ ts) es) ≡ suc n ∷ []
 shift_numbers n k t [] es = ap (λ (z : Bool). cond z [] (suc n ∷ [])) (not_none n)
 shift_numbers n k t (u ∷ us) es =
     let later : List ℕ = numbers_in (shifts (suc n) (suc k) (u ∷ us) (drop 1 es)) in
@@ -91,27 +101,35 @@ scan_numbers front back n (t ∷ ts) es some =
 
 -- ---- all commands
 
-scan_then : (from : Stable) (ps rest : List Pins) (n : ℕ) (ns : List ℕ) → numbers_in ps ≡ suc n ∷ [] → numbers_in rest ≡ ns → numbers_in (to_idle from ++ (ps ++ rest)) ≡ suc n ∷ ns
+scan_then : (from : Stable) (ps rest : List Pins) (n : ℕ) (ns : List ℕ) → numbers_in ps ≡ suc n ∷ []
+    → numbers_in rest ≡ ns → numbers_in (to_idle from ++ (ps ++ rest)) ≡ suc n ∷ ns
 scan_then from ps rest n ns one later =
     after_none (to_idle from) (ps ++ rest) (quiet_idle from)
     ∙ joined ps rest
     ∙ ap (λ (l : List ℕ). l ++ numbers_in rest) one
     ∙ ap (λ (l : List ℕ). suc n ∷ l) later
 
-all_numbers : (ir dr : LastScan) (from : Stable) (n : ℕ) (cs : List SeenCommand) → HaveBits ir dr cs → numbers_in (pins_with ir dr from n cs) ≡ counted n (scans_in cs)
+all_numbers : (ir dr : LastScan) (from : Stable) (n : ℕ) (cs : List SeenCommand) → HaveBits ir dr cs
+    → numbers_in (pins_with ir dr from n cs) ≡ counted n (scans_in cs)
 all_numbers ir dr from n [] h = refl
 all_numbers ir dr from n (SIR s ∷ cs) h =
     let p : Played = played ir s in
-    scan_then from (sir_pins (suc n) p) (pins_with (after_scan ir s) dr InIdle (suc n) cs) n (counted (suc n) (scans_in cs))
-    (scan_numbers (true ∷ true ∷ false ∷ false ∷ []) (true ∷ false ∷ []) n p.tdi p.expects h.0) (all_numbers (after_scan ir s) dr InIdle (suc n) cs h.1)
+    scan_then from (sir_pins (suc n) p)
+    (pins_with (after_scan ir s) dr InIdle (suc n) cs) n (counted (suc n) (scans_in cs))
+    (scan_numbers (true ∷ true ∷ false ∷ false ∷ []) (true ∷ false ∷ []) n p.tdi p.expects h.0)
+    (all_numbers (after_scan ir s) dr InIdle (suc n) cs h.1)
 all_numbers ir dr from n (SDR s ∷ cs) h =
     let p : Played = played dr s in
-    scan_then from (sdr_pins (suc n) p) (pins_with ir (after_scan dr s) InIdle (suc n) cs) n (counted (suc n) (scans_in cs))
-    (scan_numbers (true ∷ false ∷ false ∷ []) (true ∷ false ∷ []) n p.tdi p.expects h.0) (all_numbers ir (after_scan dr s) InIdle (suc n) cs h.1)
+    scan_then from (sdr_pins (suc n) p)
+    (pins_with ir (after_scan dr s) InIdle (suc n) cs) n (counted (suc n) (scans_in cs))
+    (scan_numbers (true ∷ false ∷ false ∷ []) (true ∷ false ∷ []) n p.tdi p.expects h.0)
+    (all_numbers ir (after_scan dr s) InIdle (suc n) cs h.1)
 all_numbers ir dr from n (Reset ∷ cs) h =
-    after_none (replicate 5 (no_shift true)) (pins_with ir dr InReset n cs) (quiet_run 5 true) ∙ all_numbers ir dr InReset n cs h
+    after_none (replicate 5 (no_shift true)) (pins_with ir dr InReset n cs) (quiet_run 5 true)
+    ∙ all_numbers ir dr InReset n cs h
 all_numbers ir dr from n (Idle ∷ cs) h =
-    after_none (to_idle from) (pins_with ir dr InIdle n cs) (quiet_idle from) ∙ all_numbers ir dr InIdle n cs h
+    after_none (to_idle from) (pins_with ir dr InIdle n cs) (quiet_idle from)
+    ∙ all_numbers ir dr InIdle n cs h
 all_numbers ir dr from n (Run m ∷ cs) h =
     after_none (to_idle from) (replicate m (no_shift false) ++ pins_with ir dr InIdle n cs) (quiet_idle from)
     ∙ after_none (replicate m (no_shift false)) (pins_with ir dr InIdle n cs) (quiet_run m false)
@@ -119,4 +137,5 @@ all_numbers ir dr from n (Run m ∷ cs) h =
 
 pub scans_are_numbered : ScansAreNumbered
 scans_are_numbered chip from commands s h =
-    numbers_are chip (pins_with no_scan no_scan from 0 commands) s ∙ all_numbers no_scan no_scan from 0 commands h
+    numbers_are chip (pins_with no_scan no_scan from 0 commands) s
+    ∙ all_numbers no_scan no_scan from 0 commands h

@@ -1,5 +1,5 @@
--- What the update stages hold before a scan of a play, and at its end (Serial Vector Format, revision E: SIR, SDR; IEEE
--- 1687-2014, hardware rules: update).
+-- What the update stages hold before a scan of a play, and at its end (Serial Vector Format, revision E: SIR,
+-- SDR; IEEE 1687-2014, hardware rules: update).
 use Rattle.std.specs.Prelude.{ℕ, suc, ◌==◌, cond, List, [], ◌∷◌, Option, None, Some}
 use Rattle.instruments.specs.declared.Counts.{Counts}
 use Rattle.instruments.specs.Seen.{SeenModel}

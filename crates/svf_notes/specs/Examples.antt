@@ -9,12 +9,14 @@ abbrev two : List (List ℕ)
 two = map note_text ((codes " scan 1" ∷ []) ∷ (codes " scan 2 path 1" ∷ codes "   0..0 R writes 1" ∷ []) ∷ [])
 
 -- a note stands after the `;` of its scan, and before what followed there
-lines : explained two (codes "SIR 2 TDI (1);\n! a;\nSDR 1 TDI (1);\n") ≡ codes "SIR 2 TDI (1);\n!: scan 1\n! a;\nSDR 1 TDI (1);\n!: scan 2 path 1\n!:   0..0 R writes 1\n"
+lines : explained two (codes "SIR 2 TDI (1);\n! a;\nSDR 1 TDI (1);\n")
+    ≡ codes "SIR 2 TDI (1);\n!: scan 1\n! a;\nSDR 1 TDI (1);\n!: scan 2 path 1\n!:   0..0 R writes 1\n"
 unfolding explained
 lines = refl
 
 -- a command on the same line, and an end without a line feed
-one_line : explained two (codes "SIR 2 TDI (1);sdr 1 tdi (1);") ≡ codes "SIR 2 TDI (1);\n!: scan 1\nsdr 1 tdi (1);\n!: scan 2 path 1\n!:   0..0 R writes 1\n"
+one_line : explained two (codes "SIR 2 TDI (1);sdr 1 tdi (1);")
+    ≡ codes "SIR 2 TDI (1);\n!: scan 1\nsdr 1 tdi (1);\n!: scan 2 path 1\n!:   0..0 R writes 1\n"
 unfolding explained
 one_line = refl
 
@@ -44,7 +46,8 @@ changed : values_text (false ∷ false ∷ false ∷ []) three ≡ codes " write
 changed = refl
 
 -- it holds them already, and nothing is compared
-kept : values_text (true ∷ false ∷ []) (bit true None true ∷ bit false None false ∷ []) ≡ codes " writes 01 as before"
+kept : values_text (true ∷ false ∷ []) (bit true None true ∷ bit false None false ∷ [])
+    ≡ codes " writes 01 as before"
 kept = refl
 
 positions : positions_text 11 4 ≡ codes "   14..11 "

@@ -1,5 +1,6 @@
 -- An SVF text once more, with a note after each scan (Serial Vector Format, revision E: comments; SIR, SDR).
-use Rattle.std.specs.Prelude.{◌≡◌, ℕ, suc, ◌==◌, Bool, true, false, cond, List, [], ◌∷◌, ◌++◌, drop, length, map, take, Ok, Option}
+use Rattle.std.specs.Prelude.{◌≡◌, ℕ, suc, ◌==◌, Bool, true, false, cond, List, [], ◌∷◌, ◌++◌, drop, length}
+use Rattle.std.specs.Prelude.{map, take, Ok, Option}
 use Rattle.std.specs.List.{AllByRecursion}
 use Rattle.ij_io.specs.Bytes.{AddsPart}
 use Rattle.ij_io.specs.Files.{Files}
@@ -36,7 +37,8 @@ with_notes (t ∷ []) notes src = src
 with_notes (t ∷ u ∷ us) notes src =
     let n = suc (length t) in
     let scans = is_scan (words t) in
-    take n src ++ (note_at scans notes (drop n src) ++ with_notes (u ∷ us) (notes_left scans notes) (drop n src))
+    take n src
+    ++ (note_at scans notes (drop n src) ++ with_notes (u ∷ us) (notes_left scans notes) (drop n src))
 
 unfoldable pub explained : List (List ℕ) → List ℕ → List ℕ
 explained notes src = with_notes (texts (plain src)) notes src
@@ -49,12 +51,17 @@ explained_text net device models commands src = explained (notes net device mode
 abbrev pub HoldsSome : Option Files → List ℕ → Option (List ℕ) → List ℕ → Type 0
 HoldsSome files name old text = (held : Option (List ℕ)) × AddsPart old held text × HoldsFront files name held
 
--- Whatever the notes are, as long as no line of them has a line feed, an SVF text has the same commands with them as without them.
+-- Whatever the notes are, as long as no line of them has a line feed, an SVF text has the same commands with
+-- them as without them.
 abbrev pub SameCommands : Type 0
 SameCommands =
-    (notes : List (List (List ℕ))) (src : List ℕ) (commands : List SeenCommand) → AllByRecursion (AllByRecursion IsOnLine) notes → svf src ≡ Ok commands → svf (explained (map note_text notes) src) ≡ Ok commands
+    (notes : List (List (List ℕ))) (src : List ℕ) (commands : List SeenCommand)
+    → AllByRecursion (AllByRecursion IsOnLine) notes → svf src ≡ Ok commands
+    → svf (explained (map note_text notes) src) ≡ Ok commands
 
 -- So a text that is explained has the commands that it had.
 abbrev pub ExplainedIsSame : Type 0
 ExplainedIsSame =
-    (net : Net) (device : Device) (models : List SeenModel) (src : List ℕ) (commands : List SeenCommand) → IsNet net → svf src ≡ Ok commands → svf (explained_text net device models commands src) ≡ Ok commands
+    (net : Net) (device : Device) (models : List SeenModel) (src : List ℕ) (commands : List SeenCommand)
+    → IsNet net → svf src ≡ Ok commands
+    → svf (explained_text net device models commands src) ≡ Ok commands

@@ -12,7 +12,8 @@ use Rattle.svf_notes.specs.Notes.{differs, digits, is_compared, positions_text, 
 
 abbrev pub row_head : Net → ℕ → ℕ → List ℕ
 row_head net r at =
-    codes "\n!:" ++ (positions_text at (width_of net r) ++ (register_path net r ++ (range_text net r (width_of net r) ++ codes " writes ")))
+    codes "\n!:" ++ (positions_text at (width_of net r)
+    ++ (register_path net r ++ (range_text net r (width_of net r) ++ codes " writes ")))
 
 abbrev pub values_after : List Bool → List Shifted → List ℕ
 values_after held bits =

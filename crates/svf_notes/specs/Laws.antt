@@ -1,5 +1,5 @@
--- What the scans of a play are: what their commands say, and what the play compares (Serial Vector Format, revision E: SIR, SDR;
--- IEEE 1149.1-2013, clause 6: update stages change in Update-IR and Update-DR alone).
+-- What the scans of a play are: what their commands say, and what the play compares (Serial Vector Format,
+-- revision E: SIR, SDR; IEEE 1149.1-2013, clause 6: update stages change in Update-IR and Update-DR alone).
 use Rattle.std.specs.Prelude.{◌≡◌, ◌<◌, ℕ, zero, suc, Bool, List, [], ◌∷◌, ◌++◌, length, map, Ok}
 use Rattle.std.specs.List.{flat_map}
 use Rattle.instruments.specs.declared.Counts.{Counts}
@@ -8,7 +8,8 @@ use Rattle.svf_reader.specs.Meaning.{svf}
 use Rattle.tap_machine.specs.declared.TapState.{TapState}
 use Rattle.tap_machine.specs.declared.TapState.TheVariants.{RunTestIdle, Exit1Dr, Exit1Ir}
 use Rattle.tap_machine.specs.declared.Stable.{Stable}
-use Rattle.tap_machine.specs.Play.{LastScan, Played, after_scan, no_scan, played, scans_in, sdr_pins, sir_pins}
+use Rattle.tap_machine.specs.Play.{LastScan, Played, after_scan, no_scan, played, scans_in, sdr_pins}
+use Rattle.tap_machine.specs.Play.{sir_pins}
 use Rattle.net_bench.specs.Bench.{Chip, State}
 use Rattle.net_bench.specs.Playing.{Compare, compare_of, compares_from, resting}
 use Rattle.tap_machine.specs.Play.{pins}
@@ -23,14 +24,17 @@ bit_compares n at (b ∷ bs) = compare_of b.expect n at b.found ++ bit_compares 
 abbrev pub compares_in : Scan Counts → List Compare
 compares_in x = bit_compares x.number 0 x.bits
 
--- What a play compares is what is expected and found at the bits of its scans, scan by scan and position by position.
+-- What a play compares is what is expected and found at the bits of its scans, scan by scan and position by
+-- position.
 abbrev pub ScansCompare : Type 0
 ScansCompare =
-    (chip : Chip Counts) (commands : List SeenCommand) (s : State Counts) → compares_from chip 0 commands s ≡ flat_map compares_in (scans_of chip (pins (resting s) 0 commands) s)
+    (chip : Chip Counts) (commands : List SeenCommand) (s : State Counts) → compares_from chip 0 commands s
+    ≡ flat_map compares_in (scans_of chip (pins (resting s) 0 commands) s)
 
--- the scan that the pins of one command make: its number and the bits that are written are those of the command, and the network and the
--- instruction are as they were when the command began
-pub record IsScanOf (xs : List (Scan Counts)) (n : ℕ) (tdi : List Bool) (tap : TapState) (s : State Counts) : Type 0 where
+-- the scan that the pins of one command make: its number and the bits that are written are those of the
+-- command, and the network and the instruction are as they were when the command began
+pub record IsScanOf (xs : List (Scan Counts)) (n : ℕ) (tdi : List Bool)
+    (tap : TapState) (s : State Counts) : Type 0 where
   pub scan : Scan Counts
   pub one : xs ≡ scan ∷ []
   pub number : scan.number ≡ n
@@ -43,7 +47,8 @@ pub record IsScanOf (xs : List (Scan Counts)) (n : ℕ) (tdi : List Bool) (tap :
 abbrev pub ScansKeepTheirPath : Type 0
 ScansKeepTheirPath =
     (chip : Chip Counts) (n : ℕ) (p : Played) (s : State Counts) → s.tap ≡ RunTestIdle → 0 < length p.tdi
-    → IsScanOf (scans_of chip (sdr_pins (suc n) p) s) (suc n) p.tdi Exit1Dr s × IsScanOf (scans_of chip (sir_pins (suc n) p) s) (suc n) p.tdi Exit1Ir s
+    → IsScanOf (scans_of chip (sdr_pins (suc n) p) s) (suc n) p.tdi Exit1Dr s
+    × IsScanOf (scans_of chip (sir_pins (suc n) p) s) (suc n) p.tdi Exit1Ir s
 
 -- each command that scans has bits: those of its own TDI, or of the last one of its kind
 abbrev pub HaveBits : LastScan → LastScan → List SeenCommand → Type 0
@@ -59,19 +64,23 @@ abbrev pub counted : ℕ → ℕ → List ℕ
 counted n zero = []
 counted n (suc k) = suc n ∷ counted (suc n) k
 
--- A play has one scan for each command that scans, in the order of the commands: the k-th has the number k. So the k-th note of a text is
--- that of its k-th scan.
+-- A play has one scan for each command that scans, in the order of the commands: the k-th has the number k.
+-- So the k-th note of a text is that of its k-th scan.
 abbrev pub ScansAreNumbered : Type 0
 ScansAreNumbered =
-    (chip : Chip Counts) (from : Stable) (commands : List SeenCommand) (s : State Counts) → HaveBits no_scan no_scan commands
+    (chip : Chip Counts) (from : Stable) (commands : List SeenCommand) (s : State Counts)
+    → HaveBits no_scan no_scan commands
     → map (λ x. x.number) (scans_of chip (pins from 0 commands) s) ≡ counted 0 (scans_in commands)
 
 -- In the commands that are read of any text each scan has bits.
 abbrev pub ReadScansHaveBits : Type 0
-ReadScansHaveBits = (src : List ℕ) (commands : List SeenCommand) → svf src ≡ Ok commands → HaveBits no_scan no_scan commands
+ReadScansHaveBits = (src : List ℕ) (commands : List SeenCommand)
+    → svf src ≡ Ok commands → HaveBits no_scan no_scan commands
 
--- So a play of any text that is read has one scan for each SIR and SDR in it, in their order: the k-th has the number k.
+-- So a play of any text that is read has one scan for each SIR and SDR in it, in their order: the k-th has
+-- the number k.
 abbrev pub ReadScansAreNumbered : Type 0
 ReadScansAreNumbered =
-    (chip : Chip Counts) (from : Stable) (src : List ℕ) (commands : List SeenCommand) (s : State Counts) → svf src ≡ Ok commands
+    (chip : Chip Counts) (from : Stable) (src : List ℕ) (commands : List SeenCommand) (s : State Counts)
+    → svf src ≡ Ok commands
     → map (λ x. x.number) (scans_of chip (pins from 0 commands) s) ≡ counted 0 (scans_in commands)

@@ -7,7 +7,8 @@ use Rattle.svf_notes.specs.declared.playing.Playing.{Playing}
 use Rattle.svf_notes.specs.Notes.{note_of, note_text}
 use Rattle.svf_notes.specs.Scans.{Scan, scans_of}
 
--- the bench is that of the network and the device, and the beginnings of rows that are kept are those of the network
+-- the bench is that of the network and the device, and the beginnings of rows that are kept are those of the
+-- network
 pub record IsPlaying (p : Playing) : Type 0 where
   pub well_formed : IsNet p.net.now
   pub net : p.bench.net ≡ p.net.now

@@ -1,5 +1,5 @@
--- How long a text with notes can become, by the lengths of its scans and the names of the registers alone, without a play (Serial
--- Vector Format, revision E: SIR, SDR).
+-- How long a text with notes can become, by the lengths of its scans and the names of the registers alone,
+-- without a play (Serial Vector Format, revision E: SIR, SDR).
 use Rattle.std.specs.Prelude.{◌≤◌, ◌<◌, ℕ, ◌+◌, ◌*◌, List, [], ◌∷◌, ◌++◌, decimal, length, min}
 use Rattle.net_graph.specs.declared.device.Device.{Device}
 use Rattle.net_graph.specs.declared.net.Net.{Net}
@@ -16,8 +16,9 @@ named net r = register_path net r ++ range_text net r (width_of net r)
 abbrev pub AreNamedWithin : Net → ℕ → ℕ → Type 0
 AreNamedWithin net count most = (r : ℕ) → r < count → length (named net r) ≤ most
 
--- the note of a scan of n bits and the line feed that closes it, in a network of so many registers: the words and numbers of its first
--- line, three digits for each bit, and for each register on the path its positions, its name and the words of its row
+-- the note of a scan of n bits and the line feed that closes it, in a network of so many registers: the words
+-- and numbers of its first line, three digits for each bit, and for each register on the path its positions,
+-- its name and the words of its row
 unfoldable pub most_of_scan : Device → ℕ → ℕ → ℕ → ℕ
 most_of_scan device regs name n =
     57 + length (decimal device.ir) + (length (decimal n) + (3 * n + min n regs * (51 + name)))

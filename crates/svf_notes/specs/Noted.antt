@@ -1,6 +1,8 @@
--- After the `;` of each scan of a text stands the note of this very scan, and a reader of notes finds there the scan's number and the
--- registers of the active path (Serial Vector Format, revision E: SIR, SDR; IEEE 1687-2014: active scan path).
-use Rattle.std.specs.Prelude.{◌≡◌, ◌≤◌, ◌<◌, ℕ, zero, suc, ◌+◌, ◌-◌, ◌==◌, ◌⊎◌, Bool, cond, List, [], ◌∷◌, ◌++◌, drop, length, map, slice_get, take, Ok, Option, None, Some}
+-- After the `;` of each scan of a text stands the note of this very scan, and a reader of notes finds there
+-- the scan's number and the registers of the active path (Serial Vector Format, revision E: SIR, SDR; IEEE
+-- 1687-2014: active scan path).
+use Rattle.std.specs.Prelude.{◌≡◌, ◌≤◌, ◌<◌, ℕ, zero, suc, ◌+◌, ◌-◌, ◌==◌, ◌⊎◌, Bool, cond, List, [], ◌∷◌}
+use Rattle.std.specs.Prelude.{◌++◌, drop, length, map, slice_get, take, Ok, Option, None, Some}
 use Rattle.std.specs.List.{list_any}
 use Rattle.ij_bits.specs.BitLists.{bits_eq}
 use Rattle.bench_report.specs.Report.{chip}
@@ -22,7 +24,8 @@ use Rattle.tap_machine.specs.Play.{LastScan, Played, after_scan, no_scan, pins, 
 use Rattle.svf_notes.specs.Explained.{explained_text}
 use Rattle.svf_notes.specs.declared.scan.Shifted.{Shifted}
 use Rattle.svf_notes.specs.declared.scan.Shown.TheVariants.{Written, Expected, Found}
-use Rattle.svf_notes.specs.Notes.{Target, Instruction, Data, differs, digits, is_compared, note_of, note_text, path_length, played_scans, range_text, target, tdi_bits}
+use Rattle.svf_notes.specs.Notes.{Target, Instruction, Data, differs, digits, is_compared, note_of, note_text}
+use Rattle.svf_notes.specs.Notes.{path_length, played_scans, range_text, target, tdi_bits}
 use Rattle.svf_notes.specs.Reader.{ReadNote, ReadRow, read_note}
 use Rattle.svf_notes.specs.Scans.{Scan}
 
@@ -43,7 +46,8 @@ state_before net device models commands n =
     let c = chip net device models in
     after_pins c (pins InReset 0 (before_scan n commands)) (power_up c)
 
--- what is put into this scan and expected of it: its TDI, or that of the last scan of its kind, and its TDO under MASK
+-- what is put into this scan and expected of it: its TDI, or that of the last scan of its kind, and its TDO
+-- under MASK
 abbrev pub played_at : LastScan → LastScan → ℕ → List SeenCommand → Played
 played_at ir dr n [] = record { tdi = []; expects = [] }
 played_at ir dr n (SIR s ∷ cs) = elim n [ zero ↦ played ir s | suc m ↦ played_at (after_scan ir s) dr m cs ]
@@ -60,12 +64,14 @@ pub record IsScanFrom (s : State Counts) (number : ℕ) (p : Played) (x : Scan C
   pub written : map (λ b. b.tdi) x.bits ≡ p.tdi
   pub expected : map (λ b. b.expect) x.bits ≡ p.expects
 
--- In a play of any text that is read the scan with n scans before it has the number n + 1, begins in the state that the commands before it
--- leave, and has the bits of its command.
+-- In a play of any text that is read the scan with n scans before it has the number n + 1, begins in the
+-- state that the commands before it leave, and has the bits of its command.
 abbrev pub ScansBegin : Type 0
 ScansBegin =
-    (net : Net) (device : Device) (models : List SeenModel) (src : List ℕ) (commands : List SeenCommand) (n : ℕ) → svf src ≡ Ok commands → n < scans_in commands
-    → (x : Scan Counts) × (slice_get (played_scans net device models commands) n ≡ Some x) × IsScanFrom (state_before net device models commands n) (suc n) (played_at no_scan no_scan n commands) x
+    (net : Net) (device : Device) (models : List SeenModel) (src : List ℕ) (commands : List SeenCommand)
+    (n : ℕ) → svf src ≡ Ok commands → n < scans_in commands
+    → (x : Scan Counts) × (slice_get (played_scans net device models commands) n ≡ Some x) × IsScanFrom
+    (state_before net device models commands n) (suc n) (played_at no_scan no_scan n commands) x
 
 -- ---- what a reader must find
 
@@ -89,7 +95,8 @@ register_row net holds bits at r =
       finds = some_if (list_any differs part) (digits Found part);
     }
 
--- the registers of a path, the one nearest scan-in first, by the position of the bit that is nearest to scan-out
+-- the registers of a path, the one nearest scan-in first, by the position of the bit that is nearest to
+-- scan-out
 abbrev pub path_rows : Net → Holds → List Shifted → ℕ → List ℕ → List ReadRow
 path_rows net holds bits at [] = []
 path_rows net holds bits at (r ∷ rs) =
@@ -133,7 +140,8 @@ through_scan (suc k) (Reset ∷ cs) = Reset ∷ through_scan (suc k) cs
 through_scan (suc k) (Idle ∷ cs) = Idle ∷ through_scan (suc k) cs
 through_scan (suc k) (Run m ∷ cs) = Run m ∷ through_scan (suc k) cs
 
--- after each part stands the note of its scan and nothing more but a line feed (10), and a reader of all that follows finds it
+-- after each part stands the note of its scan and nothing more but a line feed (10), and a reader of all that
+-- follows finds it
 pub record IsNoteOf (net : Net) (device : Device) (p : Part) (later : List ℕ) (x : Scan Counts) : Type 0 where
   pub feed : List ℕ
   pub at_most_one : (feed ≡ []) ⊎ (feed ≡ 10 ∷ [])
@@ -147,9 +155,10 @@ AreNotesOf net device (p ∷ ps) rest [] = ⊥
 AreNotesOf net device (p ∷ ps) rest (x ∷ xs) =
     IsNoteOf net device p (noted ps rest) x × AreNotesOf net device ps rest xs
 
--- a text, and the same text with the notes of some scans: without the notes it is the old one, byte for byte, and the note of the k-th scan
--- stands where a reader of SVF has read the commands up to the k-th scan
-pub record IsNoted (net : Net) (device : Device) (commands : List SeenCommand) (scans : List (Scan Counts)) (src new : List ℕ) : Type 0 where
+-- a text, and the same text with the notes of some scans: without the notes it is the old one, byte for byte,
+-- and the note of the k-th scan stands where a reader of SVF has read the commands up to the k-th scan
+pub record IsNoted (net : Net) (device : Device) (commands : List SeenCommand)
+    (scans : List (Scan Counts)) (src new : List ℕ) : Type 0 where
   pub parts : List Part
   pub rest : List ℕ
   pub old : src ≡ unnoted parts rest
@@ -160,5 +169,7 @@ pub record IsNoted (net : Net) (device : Device) (commands : List SeenCommand) (
 -- So is any text that is read and explained, with the scans of its play from power-up.
 abbrev pub NotesFollowTheirScans : Type 0
 NotesFollowTheirScans =
-    (net : Net) (device : Device) (models : List SeenModel) (src : List ℕ) (commands : List SeenCommand) → IsNet net → svf src ≡ Ok commands
-    → IsNoted net device commands (played_scans net device models commands) src (explained_text net device models commands src)
+    (net : Net) (device : Device) (models : List SeenModel) (src : List ℕ) (commands : List SeenCommand)
+    → IsNet net → svf src ≡ Ok commands
+    → IsNoted net device commands (played_scans net device models commands) src
+    (explained_text net device models commands src)

@@ -1,6 +1,7 @@
--- The note of a scan: which register each of its bits is, what is written, what is expected and what is found (Serial Vector
--- Format, revision E: SIR, SDR, TDI, TDO, MASK; IEEE 1687-2014: active scan path).
-use Rattle.std.specs.Prelude.{ℕ, zero, suc, ◌+◌, ◌-◌, ◌/◌, ◌==◌, not, Bool, true, false, cond, List, [], ◌∷◌, ◌++◌, codes, decimal, drop, get_or, length, map, take, Option, Some, None}
+-- The note of a scan: which register each of its bits is, what is written, what is expected and what is found
+-- (Serial Vector Format, revision E: SIR, SDR, TDI, TDO, MASK; IEEE 1687-2014: active scan path).
+use Rattle.std.specs.Prelude.{ℕ, zero, suc, ◌+◌, ◌-◌, ◌/◌, ◌==◌, not, Bool, true, false, cond, List, [], ◌∷◌}
+use Rattle.std.specs.Prelude.{◌++◌, codes, decimal, drop, get_or, length, map, take, Option, Some, None}
 use Rattle.std.specs.List.{list_any}
 use Rattle.ij_bits.specs.BitLists.{bits_eq, same_bit}
 use Rattle.ij_bits.specs.Hex.{hex_digit}
@@ -61,7 +62,10 @@ pub data Target : Type 0 where
   Data : (register : Selected) → Target
 
 abbrev pub target : Device → State Counts → Target
-target device s = elim (is_instruction s.tap) [ true ↦ Instruction | false ↦ Data (selected device s.ir_hold) ]
+target device s = elim (is_instruction s.tap) [
+  | true ↦ Instruction
+  | false ↦ Data (selected device s.ir_hold)
+]
 
 -- how many bits the active path has
 abbrev pub path_length : Net → Holds → ℕ
@@ -76,7 +80,8 @@ tdi_bits bits = map (λ b. b.tdi) bits
 abbrev pub range_text : Net → ℕ → ℕ → List ℕ
 range_text net r width =
     let t = thing_of net r in
-    cond (width == 1) [] (codes "[" ++ (decimal (get_or (map (λ thing. thing.left) net.things.items) t 0) ++ (codes ":" ++ (decimal (get_or (map (λ thing. thing.right) net.things.items) t 0) ++ codes "]"))))
+    cond (width == 1) [] (codes "[" ++ (decimal (get_or (map (λ thing. thing.left) net.things.items) t 0)
+    ++ (codes ":" ++ (decimal (get_or (map (λ thing. thing.right) net.things.items) t 0) ++ codes "]"))))
 
 abbrev pub is_compared : Shifted → Bool
 is_compared b = elim b.expect [ Some e ↦ true | None ↦ false ]
@@ -94,12 +99,15 @@ values_text held bits =
 
 -- the positions of a register of this width, the highest first
 abbrev pub positions_text : ℕ → ℕ → List ℕ
-positions_text at width = codes "   " ++ (decimal (at + width - 1) ++ (codes ".." ++ (decimal at ++ codes " ")))
+positions_text at width = codes "   "
+    ++ (decimal (at + width - 1) ++ (codes ".." ++ (decimal at ++ codes " ")))
 
--- a register whose position 0 is this one of the scan, and what its update stage holds: its positions, the highest first, and its name
+-- a register whose position 0 is this one of the scan, and what its update stage holds: its positions, the
+-- highest first, and its name
 abbrev pub row : Net → ℕ → ℕ → List Bool → List Shifted → List ℕ
 row net r at held bits =
-    positions_text at (length held) ++ (register_path net r ++ (range_text net r (length held) ++ values_text held bits))
+    positions_text at (length held)
+    ++ (register_path net r ++ (range_text net r (length held) ++ values_text held bits))
 
 -- the registers of a path, the one nearest scan-in first, by the bits from a position on
 abbrev pub rows : Net → Holds → ℕ → List ℕ → List Shifted → List (List ℕ)
@@ -123,7 +131,8 @@ selected_name Bypass = codes " bypass"
 
 -- a scan whose length isn't that of its register
 abbrev pub other_length : List ℕ → ℕ → ℕ → List ℕ
-other_length register bits len = codes " has " ++ (decimal bits ++ (codes " bits, the " ++ (register ++ decimal len)))
+other_length register bits len = codes " has "
+    ++ (decimal bits ++ (codes " bits, the " ++ (register ++ decimal len)))
 
 -- an instruction in hexadecimal digits, and what it selects
 abbrev pub opcode_text : Device → List Bool → List ℕ
@@ -132,10 +141,12 @@ opcode_text device bits =
 
 abbrev pub instruction_text : Device → List Shifted → List ℕ
 instruction_text device bits =
-    cond (length bits == device.ir) (opcode_text device (tdi_bits bits)) (other_length (codes "instruction register ") (length bits) device.ir)
+    cond (length bits == device.ir) (opcode_text device (tdi_bits bits))
+    (other_length (codes "instruction register ") (length bits) device.ir)
 
 abbrev pub path_text : ℕ → ℕ → List ℕ
-path_text bits len = cond (bits == len) (codes " path " ++ decimal len) (other_length (codes "path ") bits len)
+path_text bits len =
+    cond (bits == len) (codes " path " ++ decimal len) (other_length (codes "path ") bits len)
 
 -- what a scan's first line says of its target
 abbrev pub target_text : Net → Device → Scan Counts → Target → List ℕ
@@ -157,7 +168,8 @@ rows_if true net holds bits = rows net holds 0 (route_of net holds) bits
 
 abbrev pub target_rows : Net → Scan Counts → Target → List (List ℕ)
 target_rows net x Instruction = []
-target_rows net x (Data Network) = rows_if (length x.bits == path_length net x.state.holds) net x.state.holds x.bits
+target_rows net x (Data Network) =
+    rows_if (length x.bits == path_length net x.state.holds) net x.state.holds x.bits
 target_rows net x (Data Identity) = []
 target_rows net x (Data Bypass) = []
 
@@ -179,4 +191,5 @@ played_scans net device models commands =
 
 -- their notes
 abbrev pub notes : Net → Device → List SeenModel → List SeenCommand → List (List ℕ)
-notes net device models commands = map (λ x. note_text (note_of net device x)) (played_scans net device models commands)
+notes net device models commands =
+    map (λ x. note_text (note_of net device x)) (played_scans net device models commands)

@@ -18,7 +18,8 @@ together [] cs es fs = []
 together (t ∷ ts) [] es fs = []
 together (t ∷ ts) (c ∷ cs) [] fs = []
 together (t ∷ ts) (c ∷ cs) (e ∷ es) [] = []
-together (t ∷ ts) (c ∷ cs) (e ∷ es) (f ∷ fs) = record { tdi = t; expect = expect_of c e; found = f } ∷ together ts cs es fs
+together (t ∷ ts) (c ∷ cs) (e ∷ es) (f ∷ fs) =
+    record { tdi = t; expect = expect_of c e; found = f } ∷ together ts cs es fs
 
 -- as many of each of the other three values
 pub record AreAsMany (n : ℕ) (cs es fs : List Bool) : Type 0 where
@@ -28,7 +29,8 @@ pub record AreAsMany (n : ℕ) (cs es fs : List Bool) : Type 0 where
 
 abbrev pub part_bits : Part → List Shifted
 part_bits p =
-    together (bits_of p.count p.tdi) (bits_of p.count p.compared) (bits_of p.count p.expected) (bits_of p.count p.found)
+    together (bits_of p.count p.tdi) (bits_of p.count p.compared)
+    (bits_of p.count p.expected) (bits_of p.count p.found)
 
 -- which of some bits are compared, and found to be another than is expected
 abbrev pub differing : List Bool → List Bool → List Bool → List Bool

@@ -1,6 +1,7 @@
--- One position of one scan: which register bit it is, what it captures, what is written, expected and found there (Serial Vector
--- Format, revision E; IEEE 1687-2014: active scan path, CaptureSource).
-use Rattle.std.specs.Prelude.{ℕ, ◌-◌, ◌==◌, nat_lt, Bool, cond, List, [], ◌∷◌, ◌++◌, codes, decimal, length, slice_get, Option, Some, None}
+-- One position of one scan: which register bit it is, what it captures, what is written, expected and found
+-- there (Serial Vector Format, revision E; IEEE 1687-2014: active scan path, CaptureSource).
+use Rattle.std.specs.Prelude.{ℕ, ◌-◌, ◌==◌, nat_lt, Bool, cond, List, [], ◌∷◌, ◌++◌, codes, decimal, length}
+use Rattle.std.specs.Prelude.{slice_get, Option, Some, None}
 use Rattle.net_graph.specs.declared.device.Device.{Device}
 use Rattle.net_graph.specs.declared.net.BitId.{BitId}
 use Rattle.net_graph.specs.declared.net.Net.{Net}
@@ -18,7 +19,8 @@ use Rattle.net_bench.specs.Instruction.{Network, Identity, Bypass}
 use Rattle.svf_notes.specs.declared.scan.Shifted.{Shifted}
 use Rattle.svf_notes.specs.declared.place.BitAnswer.{BitAnswer}
 use Rattle.svf_notes.specs.declared.place.BitAnswer.TheVariants.{Same, Differs, NoScan, NoBit}
-use Rattle.svf_notes.specs.Notes.{Target, Instruction, Data, differs, expected_digit, path_length, played_scans, target}
+use Rattle.svf_notes.specs.Notes.{Target, Instruction, Data, differs, expected_digit, path_length}
+use Rattle.svf_notes.specs.Notes.{played_scans, target}
 use Rattle.svf_notes.specs.Scans.{Scan}
 
 -- ---- names of bits
@@ -53,12 +55,14 @@ bit_on holds (r ∷ rs) at =
 
 abbrev pub register_text : Net → Option BitId → List ℕ
 register_text net None = []
-register_text net (Some b) = codes " register " ++ (bit_name net b ++ (codes " captures " ++ signal_name net (capture_signal net b)))
+register_text net (Some b) = codes " register "
+    ++ (bit_name net b ++ (codes " captures " ++ signal_name net (capture_signal net b)))
 
 -- the bits of a scan that isn't as long as its path come to stand in no register of their own
 abbrev pub on_path : Net → Holds → ℕ → ℕ → List ℕ
 on_path net holds len at =
-    cond (len == path_length net holds) (register_text net (bit_on holds (route_of net holds) at)) (codes " no register")
+    cond (len == path_length net holds)
+    (register_text net (bit_on holds (route_of net holds) at)) (codes " no register")
 
 -- what a scan of so many bits goes through, and of the network where a bit comes to stand
 abbrev pub target_place : Net → Holds → ℕ → ℕ → Target → List ℕ
@@ -71,14 +75,16 @@ target_place net holds len at (Data Bypass) = codes " bypass"
 
 abbrev pub values_text : Shifted → List ℕ
 values_text b =
-    codes " writes " ++ (digit b.tdi ∷ [] ++ (codes " expects " ++ (expected_digit b.expect ∷ [] ++ (codes " finds " ++ digit b.found ∷ 10 ∷ []))))
+    codes " writes " ++ (digit b.tdi ∷ [] ++ (codes " expects "
+    ++ (expected_digit b.expect ∷ [] ++ (codes " finds " ++ digit b.found ∷ 10 ∷ []))))
 
 abbrev pub position_text : ℕ → ℕ → List ℕ
 position_text n at = codes "scan " ++ (decimal n ++ (codes " bit " ++ decimal at))
 
 abbrev pub bit_line : Net → Device → Scan Counts → ℕ → Shifted → List ℕ
 bit_line net device x at b =
-    position_text x.number at ++ (target_place net x.state.holds (length x.bits) at (target device x.state) ++ values_text b)
+    position_text x.number at
+    ++ (target_place net x.state.holds (length x.bits) at (target device x.state) ++ values_text b)
 
 -- the scan of a number
 abbrev pub scan_numbered : ℕ → List (Scan Counts) → Option (Scan Counts)

@@ -1,12 +1,13 @@
--- A reader of the notes of an SVF text: what the lines after the `;` of a scan say. It knows of the text alone, and nothing of what wrote
--- it.
+-- A reader of the notes of an SVF text: what the lines after the `;` of a scan say. It knows of the text
+-- alone, and nothing of what wrote it.
 use Rattle.std.specs.Prelude.{ℕ, ◌==◌, ◌&&◌, Bool, false, cond, List, [], ◌∷◌, codes, Option, None, Some}
 use Rattle.std.specs.Str.{bytes_eq}
 use Rattle.ij_text.specs.Parts.{split}
 use Rattle.svf_reader.specs.Commands.{number}
 use Rattle.svf_reader.specs.Texts.{runs}
 
--- a row: the highest and the lowest position of a register in its scan, its name, and digits, those of the highest position first
+-- a row: the highest and the lowest position of a register in its scan, its name, and digits, those of the
+-- highest position first
 pub record ReadRow : Type 0 where
   pub high : ℕ
   pub low : ℕ
@@ -89,7 +90,8 @@ note_with (Some scan) rows = Some (record { scan = scan; rows = rows })
 -- !: scan N WHAT, and any other words: after `path` rows follow
 abbrev pub note_of_words : List (List ℕ) → List ReadRow → Option ReadNote
 note_of_words (mark ∷ word ∷ scan ∷ what ∷ ws) rows =
-    cond (is_mark mark && bytes_eq word (codes "scan")) (note_with (number scan) (cond (bytes_eq what (codes "path")) rows [])) None
+    cond (is_mark mark && bytes_eq word (codes "scan"))
+    (note_with (number scan) (cond (bytes_eq what (codes "path")) rows [])) None
 note_of_words _ rows = None
 
 -- nothing is left of the line of the command, and a note begins on the next one

@@ -16,11 +16,12 @@ use std::alloc::Global;
 use svf_writer::Commands;
 use tap_machine::{Player, Stable, scan_count};
 
-/// Plays up to the first bit of the scan of a number, or to the end; answers whether that is what was asked for, where `end` is
-/// the number that asks for the end.
+/// Plays up to the first bit of the scan of a number, or to the end; answers whether that is what was asked
+/// for, where `end` is the number that asks for the end.
 fn play_to(player: &mut Player, bench: &mut Bench, scan: u64, end: u64) -> bool
     ensures bench { bench.new ≡ record bench.old { state = bench.new.state } }
-    ensures found { held_at (chip_of bench.old) scan end player.old.pins bench.old.state ≡ cond result (Some bench.new.state.holds) None }
+    ensures found { held_at (chip_of bench.old) scan end player.old.pins bench.old.state
+        ≡ cond result (Some bench.new.state.holds) None }
 {
     while let Some(pins) = player.next() {
         if u64::from(pins.scan) == scan {
@@ -31,10 +32,11 @@ fn play_to(player: &mut Player, bench: &mut Bench, scan: u64, end: u64) -> bool
     scan == end
 }
 
-/// What the update stages hold before the scan of a number, or at the end of a play where the number is one more than there are
-/// scans; `None` where there is no such scan (Serial Vector Format, revision E: SIR, SDR; IEEE 1687-2014, hardware rules:
-/// update). `commands` are played from power-up on a device with a scan network and its instruments, of which `models` has one
-/// for each, in the network's order. Scans are counted from 1 over SIR and SDR alike.
+/// What the update stages hold before the scan of a number, or at the end of a play where the number is one
+/// more than there are scans; `None` where there is no such scan (Serial Vector Format, revision E: SIR, SDR;
+/// IEEE 1687-2014, hardware rules: update). `commands` are played from power-up on a device with a scan
+/// network and its instruments, of which `models` has one for each, in the network's order. Scans are counted
+/// from 1 over SIR and SDR alike.
 ///
 /// # Errors
 ///
@@ -50,7 +52,8 @@ pub fn holds_at(
     requires well_formed { IsNet net.now }
     requires models { AreModels net.now models.now.items }
     requires scans { scans_in commands.now ≤ 1000000000 }
-    ensures holds { IfOk result (λ found. found ≡ holds_before net.now device.now (map seen_model models.now.items) commands.now scan) }
+    ensures holds { IfOk result (λ found. found
+        ≡ holds_before net.now device.now (map seen_model models.now.items) commands.now scan) }
     ensures shape { IfOk result (λ found. IfSome found (AreHolds net.now)) }
 {
     if scan == 0 {

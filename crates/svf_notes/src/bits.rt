@@ -1,5 +1,6 @@
 // The bits of a scan, packed 64 to a word.
-ghost use Rattle.std.specs.Prelude.{◌≡◌, ◌+◌, ◌-◌, ◌<◌, ◌≤◌, ◌++◌, ◌∷◌, [], drop, length, take, slice_get, IfOk, OnOk};
+ghost use Rattle.std.specs.Prelude.{◌≡◌, ◌+◌, ◌-◌, ◌<◌, ◌≤◌, ◌++◌, ◌∷◌, [], drop, length, take, slice_get};
+ghost use Rattle.std.specs.Prelude.{IfOk, OnOk};
 ghost use Rattle.std.specs.List.{list_any};
 ghost use Rattle.ij_bits.specs.BitLists.{bits_eq, has_one};
 ghost use Rattle.svf_notes.specs.Notes as notes;
@@ -72,7 +73,8 @@ fn any_other(marks: &Bits, bits: &Bits, others: &Bits, at: u32, width: u32) -> b
     requires marks { at + width ≤ length marks.now.items }
     requires bits { at + width ≤ length bits.now.items }
     requires others { at + width ≤ length others.now.items }
-    ensures { result ≡ has_one (differing (take width (drop at marks.now.items)) (take width (drop at bits.now.items)) (take width (drop at others.now.items))) }
+    ensures { result ≡ has_one (differing (take width (drop at marks.now.items))
+        (take width (drop at bits.now.items)) (take width (drop at others.now.items))) }
 {
     let _all = marks.len();
     let mut done = 0;
@@ -231,7 +233,8 @@ impl ScanBits {
     /// Whether the bits at TDI from a position on are those that a register holds.
     pub(crate) fn is_held(&self, at: u32, held: &Bits) -> bool
         requires { at + length held.now.items ≤ length self.now.items }
-        ensures { result ≡ bits_eq (notes.tdi_bits (take (length held.now.items) (drop at self.now.items))) held.now.items }
+        ensures { result ≡ bits_eq
+            (notes.tdi_bits (take (length held.now.items) (drop at self.now.items))) held.now.items }
     {
         are_same(&self.tdi, at, held)
     }

@@ -65,7 +65,8 @@ pub(crate) fn put_digits(
     note: &mut SureSink,
 ) -> Result<(), StoreFault>
     requires { at + width ≤ length bits.now.items }
-    ensures { OnOk result (Adds (Some note.old) (Some note.new) (notes.digits shown (take width (drop at bits.now.items)))) }
+    ensures { OnOk result
+        (Adds (Some note.old) (Some note.new) (notes.digits shown (take width (drop at bits.now.items)))) }
 {
     let _all = bits.len();
     let mut left = width;

@@ -1,5 +1,6 @@
 // SVF texts with notes.
-ghost use Rattle.std.specs.Prelude.{◌≡◌, ◌≤◌, ◌+◌, ◌-◌, ◌^◌, ◌++◌, ◌∷◌, [], drop, length, map, min, true, IfOk, OnOk, OnErr, Some};
+ghost use Rattle.std.specs.Prelude.{◌≡◌, ◌≤◌, ◌+◌, ◌-◌, ◌^◌, ◌++◌, ◌∷◌, [], drop, length, map, min, true};
+ghost use Rattle.std.specs.Prelude.{IfOk, OnOk, OnErr, Some};
 ghost use Rattle.std.specs.Option.{option_map};
 ghost use Rattle.ij_io.specs.Bytes.{Adds};
 ghost use Rattle.ij_io.specs.Causes.{HasCauseAt, SameCounts};
@@ -50,7 +51,8 @@ fn add_next_note(
     piece: &mut SureSink,
 ) -> Result<(), OutOfMemory>
     requires { IsPlaying playing.old }
-    ensures text { OnOk result (piece.new ≡ piece.old ++ explained.note_at true (left_notes playing.old) rest.now) }
+    ensures text { OnOk result
+        (piece.new ≡ piece.old ++ explained.note_at true (left_notes playing.old) rest.now) }
     ensures left { OnOk result (left_notes playing.new ≡ drop 1 (left_notes playing.old)) }
     ensures playing { IsPlaying playing.new }
 {
@@ -72,8 +74,10 @@ fn add_note(
     piece: &mut SureSink,
 ) -> Result<(), OutOfMemory>
     requires { IsPlaying playing.old }
-    ensures text { OnOk result (piece.new ≡ piece.old ++ explained.note_at scans (left_notes playing.old) rest.now) }
-    ensures left { OnOk result (left_notes playing.new ≡ explained.notes_left scans (left_notes playing.old)) }
+    ensures text { OnOk result
+        (piece.new ≡ piece.old ++ explained.note_at scans (left_notes playing.old) rest.now) }
+    ensures left { OnOk result (left_notes playing.new
+        ≡ explained.notes_left scans (left_notes playing.old)) }
     ensures playing { IsPlaying playing.new }
 {
     if scans {
@@ -91,8 +95,10 @@ fn add_command(
     piece: &mut SureSink,
 ) -> Result<(), OutOfMemory>
     requires { IsPlaying playing.old }
-    ensures text { OnOk result (piece.new ≡ piece.old ++ (command.now ++ 59 ∷ [] ++ explained.note_at (is_scan_of (words (plain command.now))) (left_notes playing.old) rest.now)) }
-    ensures left { OnOk result (left_notes playing.new ≡ explained.notes_left (is_scan_of (words (plain command.now))) (left_notes playing.old)) }
+    ensures text { OnOk result (piece.new ≡ piece.old ++ (command.now ++ 59 ∷ []
+        ++ explained.note_at (is_scan_of (words (plain command.now))) (left_notes playing.old) rest.now)) }
+    ensures left { OnOk result (left_notes playing.new
+        ≡ explained.notes_left (is_scan_of (words (plain command.now))) (left_notes playing.old)) }
     ensures playing { IsPlaying playing.new }
 {
     add(command, piece)?;
@@ -100,8 +106,8 @@ fn add_command(
     add_note(playing, is_scan(command), rest, piece)
 }
 
-/// Writes a text with the notes that are left after a piece of a file's text, and finishes the file. After a refusal the file
-/// holds some first bytes.
+/// Writes a text with the notes that are left after a piece of a file's text, and finishes the file. After a
+/// refusal the file holds some first bytes.
 fn put_text<S: Shelf>(
     alloc: Global,
     playing: &mut Playing,
@@ -113,10 +119,13 @@ fn put_text<S: Shelf>(
     requires playing { IsPlaying playing.old }
     requires there { IsThere (S.files shelf.old) name.now }
     ensures there { OnOk result (IsThere (S.files shelf.new) name.now) }
-    ensures whole { OnOk result (Adds (with_piece (S.files shelf.old) name.now piece) (told_bytes (S.files shelf.new) name.now) (explained.explained (left_notes playing.old) src.now)) }
-    ensures part { OnErr result (explained.HoldsSome (S.files shelf.new) name.now (with_piece (S.files shelf.old) name.now piece) (explained.explained (left_notes playing.old) src.now)) }
+    ensures whole { OnOk result (Adds (with_piece (S.files shelf.old) name.now piece)
+        (told_bytes (S.files shelf.new) name.now) (explained.explained (left_notes playing.old) src.now)) }
+    ensures part { OnErr result (explained.HoldsSome (S.files shelf.new) name.now (with_piece
+        (S.files shelf.old) name.now piece) (explained.explained (left_notes playing.old) src.now)) }
     ensures others { OthersStay (S.files shelf.old) (S.files shelf.new) name.now }
-    ensures cause { HasCauseAt name.now (S.store_faults shelf.old) (S.store_faults shelf.new) result StoreFault.Failed }
+    ensures cause { HasCauseAt name.now (S.store_faults shelf.old)
+        (S.store_faults shelf.new) result StoreFault.Failed }
     ensures loads { SameCounts (S.load_faults shelf.old) (S.load_faults shelf.new) }
 {
     let mut piece = piece;
@@ -138,8 +147,10 @@ fn note_len(
     rest: &[u8],
 ) -> Result<u64, OutOfMemory>
     requires { IsPlaying playing.old }
-    ensures len { IfOk result (λ n. n ≡ min (length (explained.note_at scans (left_notes playing.old) rest.now)) (2 ^ 64 - 1)) }
-    ensures left { OnOk result (left_notes playing.new ≡ explained.notes_left scans (left_notes playing.old)) }
+    ensures len { IfOk result
+        (λ n. n ≡ min (length (explained.note_at scans (left_notes playing.old) rest.now)) (2 ^ 64 - 1)) }
+    ensures left { OnOk result (left_notes playing.new
+        ≡ explained.notes_left scans (left_notes playing.old)) }
     ensures playing { IsPlaying playing.new }
 {
     let mut note = SureSink::new(alloc);
@@ -150,7 +161,8 @@ fn note_len(
 /// The length of a text with the notes that are left, at most `u64::MAX`.
 fn text_len(alloc: Global, playing: &mut Playing, src: &[u8]) -> Result<u64, OutOfMemory>
     requires { IsPlaying playing.old }
-    ensures { IfOk result (λ n. n ≡ min (length (explained.explained (left_notes playing.old) src.now)) (2 ^ 64 - 1)) }
+    ensures { IfOk result
+        (λ n. n ≡ min (length (explained.explained (left_notes playing.old) src.now)) (2 ^ 64 - 1)) }
 {
     let mut rest = src;
     let mut len = 0u64;
@@ -163,12 +175,13 @@ fn text_len(alloc: Global, playing: &mut Playing, src: &[u8]) -> Result<u64, Out
     Ok(len.saturating_add(rest.len() as u64))
 }
 
-/// How many bytes [`put_explained_file`] writes, at most `u64::MAX`. It plays, and keeps no more of the text than one note and what
-/// rows begin with.
+/// How many bytes [`put_explained_file`] writes, at most `u64::MAX`. It plays, and keeps no more of the text
+/// than one note and what rows begin with.
 ///
 /// # Errors
 ///
-/// `OutOfMemory`, where there is no memory for the bench, for the bits of one scan, for what rows begin with or for one note.
+/// `OutOfMemory`, where there is no memory for the bench, for the bits of one scan, for what rows begin with
+/// or for one note.
 pub fn explained_len(
     alloc: Global,
     net: &Net,
@@ -180,34 +193,37 @@ pub fn explained_len(
     requires well_formed { IsNet net.now }
     requires models { AreModels net.now models.now.items }
     requires scans { scans_in commands.now ≤ 1000000000 }
-    ensures { IfOk result (λ n. n ≡ min (length (explained.explained_text net.now device.now (map seen_model models.now.items) commands.now src.now)) (2 ^ 64 - 1)) }
+    ensures { IfOk result (λ n. n ≡ min (length (explained.explained_text net.now device.now
+        (map seen_model models.now.items) commands.now src.now)) (2 ^ 64 - 1)) }
 {
     let mut playing = Playing::new(alloc, net, device, models, commands)?;
     text_len(alloc, &mut playing, src)
 }
 
-/// Writes an SVF text once more to a file, from its front, byte for byte, with a note after the `;` of each scan (Serial
-/// Vector Format, revision E: comments, SIR, SDR). `commands` are those of the text; they are played from power-up on a device
-/// with a scan network and its instruments, of which `models` has one for each, in the network's order. Of the new text no
-/// more than 65,536 bytes, a command and its note are kept, and what the row of each register began with, up to 256 bytes.
+/// Writes an SVF text once more to a file, from its front, byte for byte, with a note after the `;` of each
+/// scan (Serial Vector Format, revision E: comments, SIR, SDR). `commands` are those of the text; they are
+/// played from power-up on a device with a scan network and its instruments, of which `models` has one for
+/// each, in the network's order. Of the new text no more than 65,536 bytes, a command and its note are kept,
+/// and what the row of each register began with, up to 256 bytes.
 ///
-/// A note is lines that begin with `!:`. The first has the scan's number, counted from 1 over SIR and SDR alike, and what
-/// the scan goes through: an instruction, in hexadecimal digits, and what it selects; the network's active path with its
-/// length; or the bypass or identity register. A scan of the network that is as long as its path has a line more for each
-/// register on the path, the one nearest scan-in first: its positions in the scan, the highest first, of which position 0 is
-/// shifted first; its name, with its range where it has more than one bit; what is written, and `as before` where its update
-/// stage holds that already; what is expected where MASK is 1, and `-` where it is 0; and where some bit differs, what is
+/// A note is lines that begin with `!:`. The first has the scan's number, counted from 1 over SIR and SDR
+/// alike, and what the scan goes through: an instruction, in hexadecimal digits, and what it selects; the
+/// network's active path with its length; or the bypass or identity register. A scan of the network that is
+/// as long as its path has a line more for each register on the path, the one nearest scan-in first: its
+/// positions in the scan, the highest first, of which position 0 is shifted first; its name, with its range
+/// where it has more than one bit; what is written, and `as before` where its update stage holds that
+/// already; what is expected where MASK is 1, and `-` where it is 0; and where some bit differs, what is
 /// found. Values begin at the highest position.
 ///
 /// # Errors
 ///
-/// - `Failed`: the shelf could not begin the file, write a piece or keep it, and its count of failed stores under this name
-///   rose.
-/// - `OutOfMemory`: there was no memory for the bench, for the bits of one scan, for what rows begin with or for a piece of the
-///   text, or the shelf had none.
+/// - `Failed`: the shelf could not begin the file, write a piece or keep it, and its count of failed stores
+///   under this name rose.
+/// - `OutOfMemory`: there was no memory for the bench, for the bits of one scan, for what rows begin with or
+///   for a piece of the text, or the shelf had none.
 ///
-/// After a refusal the file is as before, or holds some first bytes of the text. Other files and the counts of failed loads
-/// stay.
+/// After a refusal the file is as before, or holds some first bytes of the text. Other files and the counts
+/// of failed loads stay.
 pub fn put_explained_file<S: Shelf>(
     alloc: Global,
     net: &Net,
@@ -221,10 +237,15 @@ pub fn put_explained_file<S: Shelf>(
     requires well_formed { IsNet net.now }
     requires models { AreModels net.now models.now.items }
     requires scans { scans_in commands.now ≤ 1000000000 }
-    ensures whole { OnOk result (file_at (S.files shelf.new) name.now ≡ option_map (λ _. Some (explained.explained_text net.now device.now (map seen_model models.now.items) commands.now src.now)) (S.files shelf.old)) }
-    ensures part { OnErr result (HoldsPart (S.files shelf.old) (S.files shelf.new) name.now (explained.explained_text net.now device.now (map seen_model models.now.items) commands.now src.now)) }
+    ensures whole { OnOk result (file_at (S.files shelf.new) name.now
+        ≡ option_map (λ _. Some (explained.explained_text net.now device.now
+        (map seen_model models.now.items) commands.now src.now)) (S.files shelf.old)) }
+    ensures part { OnErr result
+        (HoldsPart (S.files shelf.old) (S.files shelf.new) name.now (explained.explained_text net.now
+        device.now (map seen_model models.now.items) commands.now src.now)) }
     ensures others { OthersStay (S.files shelf.old) (S.files shelf.new) name.now }
-    ensures cause { HasCauseAt name.now (S.store_faults shelf.old) (S.store_faults shelf.new) result StoreFault.Failed }
+    ensures cause { HasCauseAt name.now (S.store_faults shelf.old)
+        (S.store_faults shelf.new) result StoreFault.Failed }
     ensures loads { SameCounts (S.load_faults shelf.old) (S.load_faults shelf.new) }
 {
     let mut playing = Playing::new(alloc, net, device, models, commands)?;

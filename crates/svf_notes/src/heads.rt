@@ -1,5 +1,6 @@
 // What rows begin with, kept from note to note.
-ghost use Rattle.std.specs.Prelude.{◌≡◌, ◌≢◌, ◌⊎◌, ◌<◌, ◌≤◌, ◌++◌, [], Some, codes, length, IfOk, IsTrue, OnOk};
+ghost use Rattle.std.specs.Prelude.{◌≡◌, ◌≢◌, ◌⊎◌, ◌<◌, ◌≤◌, ◌++◌, [], Some, codes, length, IfOk, IsTrue};
+ghost use Rattle.std.specs.Prelude.{OnOk};
 ghost use Rattle.ij_io.specs.Bytes.{Adds};
 ghost use Rattle.net_graph.specs.Nets.{IsNet};
 ghost use Rattle.svf_notes.specs.Heads.{row_head};
@@ -44,8 +45,8 @@ impl Head {
     }
 }
 
-/// What the rows of a network's registers begin with. What is kept of one is written again where the register is at the
-/// same position.
+/// What the rows of a network's registers begin with. What is kept of one is written again where the register
+/// is at the same position.
 ///
 /// Contracts see the network.
 #[derive(Drop)]
@@ -113,7 +114,8 @@ impl<'a> Heads<'a> {
         Ok(Heads { net, heads })
     }
 
-    /// Writes what the row of a register begins with, up to its values, where its position 0 is this one of the scan.
+    /// Writes what the row of a register begins with, up to its values, where its position 0 is this one of
+    /// the scan.
     pub(crate) fn put(&mut self, reg: u32, at: u32, note: &mut SureSink) -> Result<(), StoreFault>
         requires well_formed { IsNet self.old }
         requires there { reg < length self.old.regs.items }

@@ -1,5 +1,6 @@
 // Instruction scans.
-ghost use Rattle.std.specs.Prelude.{◌≡◌, ◌<◌, ◌≤◌, ◌+◌, ◌*◌, ◌/◌, ◌^◌, ◌++◌, Some, codes, decimal, length, IfOk, OnOk};
+ghost use Rattle.std.specs.Prelude.{◌≡◌, ◌<◌, ◌≤◌, ◌+◌, ◌*◌, ◌/◌, ◌^◌, ◌++◌, Some, codes, decimal, length};
+ghost use Rattle.std.specs.Prelude.{IfOk, OnOk};
 ghost use Rattle.ij_io.specs.Bytes.{Adds};
 ghost use Rattle.net_bench.specs.Board.{seen_register};
 ghost use Rattle.svf_notes.specs.Notes as notes;
@@ -57,7 +58,8 @@ pub(crate) fn put_other_length(
 /// Writes an opcode and what it selects.
 fn put_opcode(device: &Device, opcode: &Bits, note: &mut SureSink) -> Result<(), StoreFault>
     requires { length opcode.now.items ≡ device.now.ir }
-    ensures { OnOk result (Adds (Some note.old) (Some note.new) (notes.opcode_text device.now opcode.now.items)) }
+    ensures { OnOk result
+        (Adds (Some note.old) (Some note.new) (notes.opcode_text device.now opcode.now.items)) }
 {
     note.write(b" instruction ")?;
     put_hex_digits(opcode, opcode.len().div_ceil(4), note)?;
@@ -71,7 +73,8 @@ pub(crate) fn put_instruction(
     bits: &ScanBits,
     note: &mut SureSink,
 ) -> Result<(), StoreFault>
-    ensures { OnOk result (Adds (Some note.old) (Some note.new) (notes.instruction_text device.now bits.now.items)) }
+    ensures { OnOk result
+        (Adds (Some note.old) (Some note.new) (notes.instruction_text device.now bits.now.items)) }
 {
     let count = u64::from(bits.len());
     let ir = u64::from(device.ir);

@@ -73,7 +73,8 @@ fn scan_most(device: &Device, regs: u64, name: u64, bits: u32) -> u64
 
 /// At least as many bytes as the note of a command has, if it is a scan.
 fn command_most(device: &Device, regs: u64, name: u64, command: &Command) -> u64
-    ensures { min (most.most_of_command device.now regs name (seen_command command.now)) (2 ^ 64 - 1) ≤ result }
+    ensures { min (most.most_of_command device.now regs name (seen_command command.now)) (2 ^ 64 - 1)
+        ≤ result }
 {
     match command {
         Command::Sir(scan) => scan_most(device, regs, name, scan.len),
@@ -95,8 +96,8 @@ fn notes_most(device: &Device, regs: u64, name: u64, commands: &Commands) -> u64
     sum
 }
 
-/// At least as many bytes as [`put_explained_file`](crate::put_explained_file) writes, told by the lengths of the scans and the
-/// names of the registers: nothing is played. Where no such number fits, it is `u64::MAX`.
+/// At least as many bytes as [`put_explained_file`](crate::put_explained_file) writes, told by the lengths of
+/// the scans and the names of the registers: nothing is played. Where no such number fits, it is `u64::MAX`.
 ///
 /// # Errors
 ///
@@ -111,7 +112,8 @@ pub fn explained_most(
 ) -> Result<u64, OutOfMemory>
     requires well_formed { IsNet net.now }
     requires scans { scans_in commands.now ≤ 1000000000 }
-    ensures { IfOk result (λ n. min (length (explained.explained_text net.now device.now (map seen_model models.now.items) commands.now src.now)) (2 ^ 64 - 1) ≤ n) }
+    ensures { IfOk result (λ n. min (length (explained.explained_text net.now device.now
+        (map seen_model models.now.items) commands.now src.now)) (2 ^ 64 - 1) ≤ n) }
 {
     let _ = models;
     // Its contract says that the commands can be played.

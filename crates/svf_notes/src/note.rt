@@ -77,7 +77,10 @@ fn put_path(
     requires net { bench.now.net ≡ net.now }
     requires heads { heads.old ≡ net.now }
     ensures heads { heads.new ≡ heads.old }
-    ensures text { OnOk result (Adds (Some note.old) (Some note.new) (notes.path_text (length bits.now.items) (notes.path_length net.now bench.now.state.holds) ++ notes.note_text (notes.rows_if (length bits.now.items == notes.path_length net.now bench.now.state.holds) net.now bench.now.state.holds bits.now.items))) }
+    ensures text { OnOk result (Adds (Some note.old) (Some note.new)
+        (notes.path_text (length bits.now.items) (notes.path_length net.now bench.now.state.holds)
+        ++ notes.note_text (notes.rows_if (length bits.now.items == notes.path_length net.now
+        bench.now.state.holds) net.now bench.now.state.holds bits.now.items))) }
 {
     let len = u64::from(path_len(net, bench));
     let count = u64::from(bits.len());
@@ -115,7 +118,8 @@ pub(crate) fn put_note(
     requires device { bench.now.device ≡ device.now }
     requires heads { heads.old ≡ net.now }
     ensures heads { heads.new ≡ heads.old }
-    ensures text { OnOk result (Adds (Some note.old) (Some note.new) (notes.note_text (notes.note_of net.now device.now (record { number = number; bits = bits.now.items; state = bench.now.state })))) }
+    ensures text { OnOk result (Adds (Some note.old) (Some note.new) (notes.note_text (notes.note_of net.now
+        device.now (record { number = number; bits = bits.now.items; state = bench.now.state })))) }
 {
     put_number(number, note)?;
     match target(bench) {

@@ -105,7 +105,8 @@ fn put_on_path(
 ) -> Result<(), StoreFault>
     requires well_formed { IsNet net.now }
     requires net { bench.now.net ≡ net.now }
-    ensures { OnOk result (Adds (Some line.old) (Some line.new) (places.on_path net.now bench.now.state.holds len at)) }
+    ensures { OnOk result
+        (Adds (Some line.old) (Some line.new) (places.on_path net.now bench.now.state.holds len at)) }
 {
     if len != path_len(net, bench) {
         return line.write(b" no register");
@@ -166,7 +167,8 @@ fn put_target(
 ) -> Result<(), StoreFault>
     requires well_formed { IsNet net.now }
     requires net { bench.now.net ≡ net.now }
-    ensures { OnOk result (Adds (Some line.old) (Some line.new) (places.target_place net.now bench.now.state.holds len at (notes.target bench.now.device bench.now.state))) }
+    ensures { OnOk result (Adds (Some line.old) (Some line.new) (places.target_place net.now
+        bench.now.state.holds len at (notes.target bench.now.device bench.now.state))) }
 {
     match target(bench) {
         ScanTarget::Instruction => line.write(b" instruction"),
@@ -184,7 +186,9 @@ fn put_line(
     line: &mut SureSink,
 ) -> Result<(), StoreFault>
     requires { IsPlaying playing.now }
-    ensures { OnOk result (Adds (Some line.old) (Some line.new) (places.bit_line playing.now.net.now playing.now.device.now (record { number = number; bits = playing.now.bits.items; state = playing.now.bench.state }) at bit)) }
+    ensures { OnOk result (Adds (Some line.old) (Some line.new)
+        (places.bit_line playing.now.net.now playing.now.device.now (record
+        { number = number; bits = playing.now.bits.items; state = playing.now.bench.state }) at bit)) }
 {
     put_position(number, at, line)?;
     put_target(playing.net, &playing.bench, playing.bits.len(), at, line)?;
@@ -201,7 +205,8 @@ fn line_of(
     bit: Shifted,
 ) -> Result<SureSink, OutOfMemory>
     requires { IsPlaying playing.now }
-    ensures { IfOk result (λ line. line ≡ places.bit_line playing.now.net.now playing.now.device.now (record { number = number; bits = playing.now.bits.items; state = playing.now.bench.state }) at bit) }
+    ensures { IfOk result (λ line. line ≡ places.bit_line playing.now.net.now playing.now.device.now
+        (record { number = number; bits = playing.now.bits.items; state = playing.now.bench.state }) at bit) }
 {
     let mut line = SureSink::new(alloc);
     match put_line(playing, number, at, bit, &mut line) {
@@ -213,8 +218,11 @@ fn line_of(
 /// What is known of a position of the scan that was shifted last, by its number.
 fn bit_in(alloc: Global, playing: &Playing, number: u32, at: u64) -> Result<FoundBit, OutOfMemory>
     requires { IsPlaying playing.now }
-    ensures answer { IfOk result (λ found. found.answer ≡ places.scan_answer at (Some (record { number = number; bits = playing.now.bits.items; state = playing.now.bench.state }))) }
-    ensures line { IfOk result (λ found. found.line ≡ places.scan_text playing.now.net.now playing.now.device.now at (Some (record { number = number; bits = playing.now.bits.items; state = playing.now.bench.state }))) }
+    ensures answer { IfOk result (λ found. found.answer ≡ places.scan_answer at
+        (Some (record { number = number; bits = playing.now.bits.items; state = playing.now.bench.state }))) }
+    ensures line { IfOk result (λ found. found.line
+        ≡ places.scan_text playing.now.net.now playing.now.device.now at
+        (Some (record { number = number; bits = playing.now.bits.items; state = playing.now.bench.state }))) }
 {
     match playing.bits.get(at) {
         None => Ok(FoundBit {
@@ -236,8 +244,10 @@ fn find_in(
     at: u64,
 ) -> Result<FoundBit, OutOfMemory>
     requires { IsPlaying playing.old }
-    ensures answer { IfOk result (λ found. found.answer ≡ places.scan_answer at (places.scan_numbered scan (left_scans playing.old))) }
-    ensures line { IfOk result (λ found. found.line ≡ places.scan_text playing.old.net.now playing.old.device.now at (places.scan_numbered scan (left_scans playing.old))) }
+    ensures answer { IfOk result
+        (λ found. found.answer ≡ places.scan_answer at (places.scan_numbered scan (left_scans playing.old))) }
+    ensures line { IfOk result (λ found. found.line ≡ places.scan_text playing.old.net.now
+        playing.old.device.now at (places.scan_numbered scan (left_scans playing.old))) }
 {
     while let Some(number) = playing.next()? {
         if u64::from(number) == scan {
@@ -250,15 +260,16 @@ fn find_in(
     })
 }
 
-/// What is known of one position of one scan of a play (Serial Vector Format, revision E: SIR, SDR; IEEE 1687-2014: active
-/// scan path). `commands` are played from power-up on a device with a scan network and its instruments, of which `models` has
-/// one for each, in the network's order. Scans are counted from 1 over SIR and SDR alike; position 0 is shifted first.
+/// What is known of one position of one scan of a play (Serial Vector Format, revision E: SIR, SDR; IEEE
+/// 1687-2014: active scan path). `commands` are played from power-up on a device with a scan network and its
+/// instruments, of which `models` has one for each, in the network's order. Scans are counted from 1 over SIR
+/// and SDR alike; position 0 is shifted first.
 ///
-/// The line is `scan N bit K PLACE writes B expects E finds F` and a line feed. PLACE is `register BIT captures SIGNAL` in a
-/// scan of the network that is as long as its active path, and `no register` in one that isn't; `instruction`, `identity` or
-/// `bypass` in any other scan. SIGNAL is what the register bit captures: a register bit, an output bit of an instrument,
-/// either with `~` before where it is inverted, a constant 0 or 1, or `-` where there is none. E is `-` where nothing is
-/// compared.
+/// The line is `scan N bit K PLACE writes B expects E finds F` and a line feed. PLACE is
+/// `register BIT captures SIGNAL` in a scan of the network that is as long as its active path, and
+/// `no register` in one that isn't; `instruction`, `identity` or `bypass` in any other scan. SIGNAL is what
+/// the register bit captures: a register bit, an output bit of an instrument, either with `~` before where it
+/// is inverted, a constant 0 or 1, or `-` where there is none. E is `-` where nothing is compared.
 ///
 /// # Errors
 ///
@@ -275,8 +286,10 @@ pub fn find_bit(
     requires well_formed { IsNet net.now }
     requires models { AreModels net.now models.now.items }
     requires scans { scans_in commands.now ≤ 1000000000 }
-    ensures answer { IfOk result (λ found. found.answer ≡ places.where_answer net.now device.now (map seen_model models.now.items) commands.now scan bit) }
-    ensures line { IfOk result (λ found. found.line ≡ places.where_text net.now device.now (map seen_model models.now.items) commands.now scan bit) }
+    ensures answer { IfOk result (λ found. found.answer
+        ≡ places.where_answer net.now device.now (map seen_model models.now.items) commands.now scan bit) }
+    ensures line { IfOk result (λ found. found.line
+        ≡ places.where_text net.now device.now (map seen_model models.now.items) commands.now scan bit) }
 {
     let mut playing = Playing::new(alloc, net, device, models, commands)?;
     find_in(alloc, &mut playing, scan, bit)

@@ -46,7 +46,8 @@ impl<'a> Playing<'a> {
         ensures net { IfOk result (λ playing. playing.net.now ≡ net.now) }
         ensures device { IfOk result (λ playing. playing.device.now ≡ device.now) }
         ensures playing { IfOk result (λ playing. IsPlaying playing) }
-        ensures scans { IfOk result (λ playing. left_scans playing ≡ played_scans net.now device.now (map seen_model models.now.items) commands.now) }
+        ensures scans { IfOk result (λ playing. left_scans playing
+            ≡ played_scans net.now device.now (map seen_model models.now.items) commands.now) }
     {
         let bench = Bench::new(alloc, net, device, models)?;
         let player = Player::new(Stable::Reset, 0, commands);
@@ -60,13 +61,19 @@ impl<'a> Playing<'a> {
         })
     }
 
-    /// Plays up to the last shift clock of the next scan; answers its number, and `None` where the play ends first.
+    /// Plays up to the last shift clock of the next scan; answers its number, and `None` where the play ends
+    /// first.
     pub(crate) fn next(&mut self) -> Result<Option<u32>, OutOfMemory>
         requires { IsPlaying self.old }
         ensures net { self.new.net.now ≡ self.old.net.now }
         ensures device { self.new.device.now ≡ self.old.device.now }
         ensures playing { IsPlaying self.new }
-        ensures scan { IfOk result (λ number. MatchOption number ((left_scans self.old ≡ []) × (left_scans self.new ≡ [])) (λ n. left_scans self.old ≡ record { number = n; bits = self.new.bits.items; state = self.new.bench.state } ∷ left_scans self.new)) }
+        ensures scan { IfOk result (λ number. MatchOption number ((left_scans self.old ≡ [])
+            × (left_scans self.new ≡ [])) (λ n. left_scans self.old ≡ record {
+              number = n;
+              bits = self.new.bits.items;
+              state = self.new.bench.state;
+            } ∷ left_scans self.new)) }
     {
         next_scan(&mut self.player, &mut self.bench, &mut self.bits)
     }
@@ -75,7 +82,9 @@ impl<'a> Playing<'a> {
     pub(crate) fn add_note(&mut self, number: u32, piece: &mut SureSink) -> Result<(), OutOfMemory>
         requires { IsPlaying self.old }
         ensures same { self.new ≡ self.old }
-        ensures text { OnOk result (piece.new ≡ piece.old ++ note_text (note_of self.old.net.now self.old.device.now (record { number = number; bits = self.old.bits.items; state = self.old.bench.state }))) }
+        ensures text { OnOk result
+            (piece.new ≡ piece.old ++ note_text (note_of self.old.net.now self.old.device.now
+            (record { number = number; bits = self.old.bits.items; state = self.old.bench.state }))) }
     {
         match put_note(
             self.net,

@@ -1,5 +1,6 @@
 // The rows of a note: the registers of a path.
-ghost use Rattle.std.specs.Prelude.{◌≡◌, ◌<◌, ◌≤◌, ◌+◌, ◌++◌, [], Some, codes, cond, drop, length, take, OnOk};
+ghost use Rattle.std.specs.Prelude.{◌≡◌, ◌<◌, ◌≤◌, ◌+◌, ◌++◌, [], Some, codes, cond, drop, length, take};
+ghost use Rattle.std.specs.Prelude.{OnOk};
 ghost use Rattle.ij_io.specs.Bytes.{Adds};
 ghost use Rattle.net_graph.specs.Chain.{chain, IsRoute};
 ghost use Rattle.net_graph.specs.Held.{AreHolds};
@@ -34,7 +35,8 @@ fn put_shown_if(
     note: &mut SureSink,
 ) -> Result<(), StoreFault>
     requires { at + width ≤ length bits.now.items }
-    ensures { OnOk result (Adds (Some note.old) (Some note.new) (cond there (words.now ++ notes.digits shown (take width (drop at bits.now.items))) [])) }
+    ensures { OnOk result (Adds (Some note.old) (Some note.new)
+        (cond there (words.now ++ notes.digits shown (take width (drop at bits.now.items))) [])) }
 {
     if !there {
         return Ok(());
@@ -47,7 +49,8 @@ fn put_shown_if(
 /// Writes the values of a register, after the word `writes`.
 fn put_values(held: &Bits, bits: &ScanBits, at: u32, note: &mut SureSink) -> Result<(), StoreFault>
     requires { at + length held.now.items ≤ length bits.now.items }
-    ensures { OnOk result (Adds (Some note.old) (Some note.new) (values_after held.now.items (take (length held.now.items) (drop at bits.now.items)))) }
+    ensures { OnOk result (Adds (Some note.old) (Some note.new)
+        (values_after held.now.items (take (length held.now.items) (drop at bits.now.items)))) }
 {
     let width = held.len();
     put_digits(Shown::Written, bits, at, width, note)?;
@@ -81,15 +84,16 @@ fn put_row(
     requires wide { width_of heads.old reg ≡ length held.now.items }
     requires within { at + length held.now.items ≤ length bits.now.items }
     ensures same { heads.new ≡ heads.old }
-    ensures row { OnOk result (Adds (Some note.old) (Some note.new) (codes "\n!:" ++ notes.row heads.old reg at held.now.items (take (length held.now.items) (drop at bits.now.items)))) }
+    ensures row { OnOk result (Adds (Some note.old) (Some note.new) (codes "\n!:" ++ notes.row heads.old reg
+        at held.now.items (take (length held.now.items) (drop at bits.now.items)))) }
 {
     heads.put(reg, at, note)?;
     put_values(held, bits, at, note)?;
     Ok(())
 }
 
-/// Writes the rows of a path, the register nearest scan-in first. `path` has the one nearest scan-out first, and `bits` one
-/// bit for each of its positions.
+/// Writes the rows of a path, the register nearest scan-in first. `path` has the one nearest scan-out first,
+/// and `bits` one bit for each of its positions.
 pub(crate) fn put_rows(
     heads: &mut Heads,
     holds: &Holds,
@@ -102,7 +106,8 @@ pub(crate) fn put_rows(
     requires route { IsRoute (length heads.old.regs.items) path.now }
     requires same { length bits.now.items ≡ length (chain path.now holds.now) }
     ensures same { heads.new ≡ heads.old }
-    ensures rows { OnOk result (Adds (Some note.old) (Some note.new) (notes.note_text (notes.rows heads.old holds.now 0 path.now bits.now.items))) }
+    ensures rows { OnOk result (Adds (Some note.old) (Some note.new)
+        (notes.note_text (notes.rows heads.old holds.now 0 path.now bits.now.items))) }
 {
     let mut end = bits.len();
     for j in 0..path.len() {

@@ -32,7 +32,8 @@ pub(crate) enum Shown {
 /// Adds the bits of some clocks that shift.
 fn add_bits(played: &Played, bits: &mut ScanBits) -> Result<(), OutOfMemory>
     requires few { played.now.piece.count ≤ 64 }
-    ensures { OnOk result (bits.new.items ≡ bits.old.items ++ shifted_bits (piece_pins played.now.piece) (bits_of played.now.piece.count played.now.found)) }
+    ensures { OnOk result (bits.new.items ≡ bits.old.items
+        ++ shifted_bits (piece_pins played.now.piece) (bits_of played.now.piece.count played.now.found)) }
 {
     bits.append(&Part {
         count: played.piece.count,
@@ -43,15 +44,19 @@ fn add_bits(played: &Played, bits: &mut ScanBits) -> Result<(), OutOfMemory>
     })
 }
 
-/// Plays up to the last shift clock of the next scan, so before its update; answers the scan's number, and `None` where
-/// the play ends first. `bits` becomes its bits, position 0 first.
+/// Plays up to the last shift clock of the next scan, so before its update; answers the scan's number, and
+/// `None` where the play ends first. `bits` becomes its bits, position 0 first.
 pub(crate) fn next_scan(
     player: &mut Player,
     bench: &mut Bench,
     bits: &mut ScanBits,
 ) -> Result<Option<u32>, OutOfMemory>
     ensures bench { bench.new ≡ record bench.old { state = bench.new.state } }
-    ensures scan { IfOk result (λ number. MatchOption number ((scans_of (chip_of bench.old) player.old.pins bench.old.state ≡ []) × (player.new.pins ≡ [])) (λ n. scans_of (chip_of bench.old) player.old.pins bench.old.state ≡ record { number = n; bits = bits.new.items; state = bench.new.state } ∷ scans_of (chip_of bench.old) player.new.pins bench.new.state)) }
+    ensures scan { IfOk result
+        (λ number. MatchOption number ((scans_of (chip_of bench.old) player.old.pins bench.old.state ≡ [])
+        × (player.new.pins ≡ [])) (λ n. scans_of (chip_of bench.old) player.old.pins bench.old.state
+        ≡ record { number = n; bits = bits.new.items; state = bench.new.state }
+        ∷ scans_of (chip_of bench.old) player.new.pins bench.new.state)) }
 {
     bits.clear();
     while let Some(played) = bench.play(player) {

@@ -1,5 +1,6 @@
 -- A text and its first command.
-use Rattle.std.proofs.Common.{◌≡◌, ℕ, zero, suc, ◌<◌, Bool, true, false, not, cond, List, [], ◌∷◌, length, take, drop, refl, ap, sym, ◌∙◌, arith}
+use Rattle.std.proofs.Common.{◌≡◌, ℕ, zero, suc, ◌<◌, Bool, true, false, not, cond, List, [], ◌∷◌, length}
+use Rattle.std.proofs.Common.{take, drop, refl, ap, sym, ◌∙◌, arith}
 use Rattle.std.specs.Prelude.{◌==◌, ◌||◌, ◌++◌}
 use Rattle.std.proofs.lemmas.Bool.Decides.{nat_tests}
 use Rattle.svf_reader.specs.declared.bytes.Class.TheVariants.{Gap, Command}
@@ -10,11 +11,13 @@ use Rattle.svf_reader.specs.Reading.{run_length}
 
 -- ---- the blanks at the front
 
-blanks_at : (h : Bool) (b : ℕ) (m n : ℕ) → m ≡ n → cond (is_blank (cond h 32 b)) (suc m) 0 ≡ cond (h || is_blank b) (suc n) 0
+blanks_at : (h : Bool) (b : ℕ) (m n : ℕ) → m ≡ n
+    → cond (is_blank (cond h 32 b)) (suc m) 0 ≡ cond (h || is_blank b) (suc n) 0
 blanks_at true b m n e = ap suc e
 blanks_at false b m n e = ap (λ k. cond (is_blank b) (suc k) 0) e
 
-pub blanks_are : (inside : Bool) (text : List ℕ) → blanks (plain_from inside text) ≡ run_length Gap inside text
+pub blanks_are : (inside : Bool) (text : List ℕ)
+    → blanks (plain_from inside text) ≡ run_length Gap inside text
 blanks_are inside [] = refl
 blanks_are inside (b ∷ bs) =
     let h = in_comment inside b (first bs) in
@@ -38,7 +41,8 @@ before_end : (inside : Bool) (b : ℕ) → in_comment inside b 0 ≡ in_comment 
 before_end true b = refl
 before_end false b = refl
 
-same_next : (inside h : Bool) (b : ℕ) (bs : List ℕ) (m : ℕ) → run_length Command h bs ≡ m → m < length bs → in_comment inside b (first (take m bs)) ≡ in_comment inside b (first bs)
+same_next : (inside h : Bool) (b : ℕ) (bs : List ℕ) (m : ℕ) → run_length Command h bs ≡ m → m < length bs
+    → in_comment inside b (first (take m bs)) ≡ in_comment inside b (first bs)
 same_next inside h b [] m e within = absurd (omega arith)
 same_next inside h b (c ∷ cs) zero e within =
     let k = in_comment h c (first cs) in
@@ -47,19 +51,24 @@ same_next inside h b (c ∷ cs) zero e within =
 same_next inside h b (c ∷ cs) (suc m) e within = refl
 
 -- a byte that belongs to a command
-shown : (h : Bool) (b : ℕ) (rest : List ℕ) → (h || not (b == 59)) ≡ true → texts (cond h 32 b ∷ rest) ≡ before (cond h 32 b) (texts rest)
+shown : (h : Bool) (b : ℕ) (rest : List ℕ) → (h || not (b == 59)) ≡ true
+    → texts (cond h 32 b ∷ rest) ≡ before (cond h 32 b) (texts rest)
 shown true b rest t = refl
 shown false b rest t =
     let other : (b == 59) ≡ false = grind (arith, nat_tests) in
     ap (λ k. cond k ([] ∷ texts rest) (before b (texts rest))) other
 
-cut_at : (inside : Bool) (b : ℕ) (bs : List ℕ) (h t : Bool) (n : ℕ) → in_comment inside b (first bs) ≡ h → (h || not (b == 59)) ≡ t → cond t (suc (run_length Command h bs)) 0 ≡ n → n < suc (length bs)
-    → ((m : ℕ) → run_length Command h bs ≡ m → m < length bs → texts (plain_from h bs) ≡ plain_from h (take m bs) ∷ texts (plain (drop (suc m) bs)))
-    → texts (cond h 32 b ∷ plain_from h bs) ≡ plain_from inside (take n (b ∷ bs)) ∷ texts (plain (drop (suc n) (b ∷ bs)))
+cut_at : (inside : Bool) (b : ℕ) (bs : List ℕ) (h t : Bool) (n : ℕ) → in_comment inside b (first bs) ≡ h
+    → (h || not (b == 59)) ≡ t → cond t (suc (run_length Command h bs)) 0 ≡ n → n < suc (length bs)
+    → ((m : ℕ) → run_length Command h bs ≡ m → m < length bs
+    → texts (plain_from h bs) ≡ plain_from h (take m bs) ∷ texts (plain (drop (suc m) bs)))
+    → texts (cond h 32 b ∷ plain_from h bs)
+    ≡ plain_from inside (take n (b ∷ bs)) ∷ texts (plain (drop (suc n) (b ∷ bs)))
 cut_at inside b bs h false n eh et en within more =
     let none = no_run h (not (b == 59)) 0 (ap (λ k. cond k 1 0) et) in
     let last : (b == 59) ≡ true = grind (arith, nat_tests) in
-    let at_none : texts (cond false 32 b ∷ plain_from false bs) ≡ [] ∷ texts (plain bs) = ap (λ k. cond k ([] ∷ texts (plain bs)) (before b (texts (plain bs)))) last in
+    let at_none : texts (cond false 32 b ∷ plain_from false bs) ≡ [] ∷ texts (plain bs) =
+    ap (λ k. cond k ([] ∷ texts (plain bs)) (before b (texts (plain bs)))) last in
     ap (λ k. texts (cond k 32 b ∷ plain_from k bs)) none.0 ∙ at_none
     ∙ ap (λ k. plain_from inside (take k (b ∷ bs)) ∷ texts (plain (drop (suc k) (b ∷ bs)))) en
 cut_at inside b bs h true zero eh et en within more = absurd (cc)
@@ -71,13 +80,16 @@ cut_at inside b bs h true (suc m) eh et en within more =
     ∙ ap (before (cond h 32 b)) (more m run short)
     ∙ ap (λ k. (cond k 32 b ∷ plain_from k (take m bs)) ∷ texts (plain (drop (suc m) bs))) (sym same)
 
-pub cut_is : (inside : Bool) (text : List ℕ) (n : ℕ) → run_length Command inside text ≡ n → n < length text → texts (plain_from inside text) ≡ plain_from inside (take n text) ∷ texts (plain (drop (suc n) text))
+pub cut_is : (inside : Bool) (text : List ℕ) (n : ℕ) → run_length Command inside text ≡ n → n < length text
+    → texts (plain_from inside text) ≡ plain_from inside (take n text) ∷ texts (plain (drop (suc n) text))
 cut_is inside [] n e within = absurd (omega arith)
 cut_is inside (b ∷ bs) n e within =
-    cut_at inside b bs (in_comment inside b (first bs)) (in_comment inside b (first bs) || not (b == 59)) n refl refl e within (λ m f w. cut_is (in_comment inside b (first bs)) bs m f w)
+    cut_at inside b bs (in_comment inside b (first bs)) (in_comment inside b (first bs) || not (b == 59)) n
+    refl refl e within (λ m f w. cut_is (in_comment inside b (first bs)) bs m f w)
 
 -- what stands after it is a `;`
-whole_at : (b : ℕ) (bs : List ℕ) (h t : Bool) (n : ℕ) → (h || not (b == 59)) ≡ t → cond t (suc (run_length Command h bs)) 0 ≡ n → n < suc (length bs)
+whole_at : (b : ℕ) (bs : List ℕ) (h t : Bool) (n : ℕ) → (h || not (b == 59)) ≡ t
+    → cond t (suc (run_length Command h bs)) 0 ≡ n → n < suc (length bs)
     → ((m : ℕ) → run_length Command h bs ≡ m → m < length bs → bs ≡ take m bs ++ 59 ∷ drop (suc m) bs)
     → (b ∷ bs) ≡ take n (b ∷ bs) ++ 59 ∷ drop (suc n) (b ∷ bs)
 whole_at b bs h false n et en within more =
@@ -89,12 +101,15 @@ whole_at b bs h true (suc m) et en within more =
     let short : m < length bs = omega arith in
     ap (λ k. b ∷ k) (more m run short)
 
-pub whole_is : (inside : Bool) (text : List ℕ) (n : ℕ) → run_length Command inside text ≡ n → n < length text → text ≡ take n text ++ 59 ∷ drop (suc n) text
+pub whole_is : (inside : Bool) (text : List ℕ) (n : ℕ) → run_length Command inside text ≡ n → n < length text
+    → text ≡ take n text ++ 59 ∷ drop (suc n) text
 whole_is inside [] n e within = absurd (omega arith)
 whole_is inside (b ∷ bs) n e within =
-    whole_at b bs (in_comment inside b (first bs)) (in_comment inside b (first bs) || not (b == 59)) n refl e within (λ m f w. whole_is (in_comment inside b (first bs)) bs m f w)
+    whole_at b bs (in_comment inside b (first bs)) (in_comment inside b (first bs) || not (b == 59)) n refl e
+    within (λ m f w. whole_is (in_comment inside b (first bs)) bs m f w)
 
-last_at : (inside : Bool) (b : ℕ) (bs : List ℕ) (h t : Bool) → (h || not (b == 59)) ≡ t → cond t (suc (run_length Command h bs)) 0 ≡ suc (length bs)
+last_at : (inside : Bool) (b : ℕ) (bs : List ℕ) (h t : Bool) → (h || not (b == 59)) ≡ t
+    → cond t (suc (run_length Command h bs)) 0 ≡ suc (length bs)
     → (run_length Command h bs ≡ length bs → texts (plain_from h bs) ≡ plain_from h bs ∷ [])
     → texts (cond h 32 b ∷ plain_from h bs) ≡ (cond h 32 b ∷ plain_from h bs) ∷ []
 last_at inside b bs h false et en more = absurd (cc)
@@ -102,7 +117,9 @@ last_at inside b bs h true et en more =
     let run : run_length Command h bs ≡ length bs = cc in
     shown h b (plain_from h bs) et ∙ ap (before (cond h 32 b)) (more run)
 
-pub last_is : (inside : Bool) (text : List ℕ) → run_length Command inside text ≡ length text → texts (plain_from inside text) ≡ plain_from inside text ∷ []
+pub last_is : (inside : Bool) (text : List ℕ) → run_length Command inside text ≡ length text
+    → texts (plain_from inside text) ≡ plain_from inside text ∷ []
 last_is inside [] e = refl
 last_is inside (b ∷ bs) e =
-    last_at inside b bs (in_comment inside b (first bs)) (in_comment inside b (first bs) || not (b == 59)) refl e (λ f. last_is (in_comment inside b (first bs)) bs f)
+    last_at inside b bs (in_comment inside b (first bs)) (in_comment inside b (first bs) || not (b == 59))
+    refl e (λ f. last_is (in_comment inside b (first bs)) bs f)

@@ -1,5 +1,7 @@
 -- Written hexadecimal digits and decimal numbers are read again.
-use Rattle.std.proofs.Common.{◌≡◌, ℕ, zero, suc, ◌+◌, ◌-◌, ◌*◌, ◌/◌, ◌%◌, ◌^◌, ◌<◌, ◌≤◌, Bool, true, false, not, cond, List, [], ◌∷◌, ◌++◌, length, take, drop, replicate, refl, ap, sym, ◌∙◌, arith, append_assoc, Option, Some, None, nat_lt, nat_le, decimal, lit<}
+use Rattle.std.proofs.Common.{◌≡◌, ℕ, zero, suc, ◌+◌, ◌-◌, ◌*◌, ◌/◌, ◌%◌, ◌^◌, ◌<◌, ◌≤◌, Bool, true, false}
+use Rattle.std.proofs.Common.{not, cond, List, [], ◌∷◌, ◌++◌, length, take, drop, replicate, refl, ap, sym}
+use Rattle.std.proofs.Common.{◌∙◌, arith, append_assoc, Option, Some, None, nat_lt, nat_le, decimal, lit<}
 use Rattle.std.specs.Prelude.{◌==◌, ◌&&◌, ◌||◌}
 use Rattle.std.specs.List.{list_all}
 use Rattle.std.specs.Char.{is_ascii_digit, is_ascii_hexdigit}
@@ -35,21 +37,36 @@ pub record IsDigit (b v : ℕ) : Type 0 where
 pub nibble : (v : ℕ) → v < 16 → IsDigit (hex_code v) v
 nibble zero h = record { hex = refl; blank = refl; mark = refl; quiet = refl; end = refl; value = refl }
 nibble (suc zero) h = record { hex = refl; blank = refl; mark = refl; quiet = refl; end = refl; value = refl }
-nibble (suc (suc zero)) h = record { hex = refl; blank = refl; mark = refl; quiet = refl; end = refl; value = refl }
-nibble (suc (suc (suc zero))) h = record { hex = refl; blank = refl; mark = refl; quiet = refl; end = refl; value = refl }
-nibble (suc (suc (suc (suc zero)))) h = record { hex = refl; blank = refl; mark = refl; quiet = refl; end = refl; value = refl }
-nibble (suc (suc (suc (suc (suc zero))))) h = record { hex = refl; blank = refl; mark = refl; quiet = refl; end = refl; value = refl }
-nibble (suc (suc (suc (suc (suc (suc zero)))))) h = record { hex = refl; blank = refl; mark = refl; quiet = refl; end = refl; value = refl }
-nibble (suc (suc (suc (suc (suc (suc (suc zero))))))) h = record { hex = refl; blank = refl; mark = refl; quiet = refl; end = refl; value = refl }
-nibble (suc (suc (suc (suc (suc (suc (suc (suc zero)))))))) h = record { hex = refl; blank = refl; mark = refl; quiet = refl; end = refl; value = refl }
-nibble (suc (suc (suc (suc (suc (suc (suc (suc (suc zero))))))))) h = record { hex = refl; blank = refl; mark = refl; quiet = refl; end = refl; value = refl }
-nibble (suc (suc (suc (suc (suc (suc (suc (suc (suc (suc zero)))))))))) h = record { hex = refl; blank = refl; mark = refl; quiet = refl; end = refl; value = refl }
-nibble (suc (suc (suc (suc (suc (suc (suc (suc (suc (suc (suc zero))))))))))) h = record { hex = refl; blank = refl; mark = refl; quiet = refl; end = refl; value = refl }
-nibble (suc (suc (suc (suc (suc (suc (suc (suc (suc (suc (suc (suc zero)))))))))))) h = record { hex = refl; blank = refl; mark = refl; quiet = refl; end = refl; value = refl }
-nibble (suc (suc (suc (suc (suc (suc (suc (suc (suc (suc (suc (suc (suc zero))))))))))))) h = record { hex = refl; blank = refl; mark = refl; quiet = refl; end = refl; value = refl }
-nibble (suc (suc (suc (suc (suc (suc (suc (suc (suc (suc (suc (suc (suc (suc zero)))))))))))))) h = record { hex = refl; blank = refl; mark = refl; quiet = refl; end = refl; value = refl }
-nibble (suc (suc (suc (suc (suc (suc (suc (suc (suc (suc (suc (suc (suc (suc (suc zero))))))))))))))) h = record { hex = refl; blank = refl; mark = refl; quiet = refl; end = refl; value = refl }
-nibble (suc (suc (suc (suc (suc (suc (suc (suc (suc (suc (suc (suc (suc (suc (suc (suc v)))))))))))))))) h = absurd (omega arith)
+nibble (suc (suc zero)) h =
+    record { hex = refl; blank = refl; mark = refl; quiet = refl; end = refl; value = refl }
+nibble (suc (suc (suc zero))) h =
+    record { hex = refl; blank = refl; mark = refl; quiet = refl; end = refl; value = refl }
+nibble (suc (suc (suc (suc zero)))) h =
+    record { hex = refl; blank = refl; mark = refl; quiet = refl; end = refl; value = refl }
+nibble (suc (suc (suc (suc (suc zero))))) h =
+    record { hex = refl; blank = refl; mark = refl; quiet = refl; end = refl; value = refl }
+nibble (suc (suc (suc (suc (suc (suc zero)))))) h =
+    record { hex = refl; blank = refl; mark = refl; quiet = refl; end = refl; value = refl }
+nibble (suc (suc (suc (suc (suc (suc (suc zero))))))) h =
+    record { hex = refl; blank = refl; mark = refl; quiet = refl; end = refl; value = refl }
+nibble (suc (suc (suc (suc (suc (suc (suc (suc zero)))))))) h =
+    record { hex = refl; blank = refl; mark = refl; quiet = refl; end = refl; value = refl }
+nibble (suc (suc (suc (suc (suc (suc (suc (suc (suc zero))))))))) h =
+    record { hex = refl; blank = refl; mark = refl; quiet = refl; end = refl; value = refl }
+nibble (suc (suc (suc (suc (suc (suc (suc (suc (suc (suc zero)))))))))) h =
+    record { hex = refl; blank = refl; mark = refl; quiet = refl; end = refl; value = refl }
+nibble (suc (suc (suc (suc (suc (suc (suc (suc (suc (suc (suc zero))))))))))) h =
+    record { hex = refl; blank = refl; mark = refl; quiet = refl; end = refl; value = refl }
+nibble (suc (suc (suc (suc (suc (suc (suc (suc (suc (suc (suc (suc zero)))))))))))) h =
+    record { hex = refl; blank = refl; mark = refl; quiet = refl; end = refl; value = refl }
+nibble (suc (suc (suc (suc (suc (suc (suc (suc (suc (suc (suc (suc (suc zero))))))))))))) h =
+    record { hex = refl; blank = refl; mark = refl; quiet = refl; end = refl; value = refl }
+nibble (suc (suc (suc (suc (suc (suc (suc (suc (suc (suc (suc (suc (suc (suc zero)))))))))))))) h =
+    record { hex = refl; blank = refl; mark = refl; quiet = refl; end = refl; value = refl }
+nibble (suc (suc (suc (suc (suc (suc (suc (suc (suc (suc (suc (suc (suc (suc (suc zero))))))))))))))) h =
+    record { hex = refl; blank = refl; mark = refl; quiet = refl; end = refl; value = refl }
+nibble (suc (suc (suc (suc (suc (suc (suc (suc (suc (suc (suc (suc (suc (suc (suc (suc v)))))))))))))))) h =
+    absurd (omega arith)
 
 -- ---- bits of a number
 
@@ -87,7 +104,8 @@ hex_list bits zero = []
 hex_list bits (suc d) = hex_digit bits d ∷ hex_list bits d
 
 pub four_below : (bits : List Bool) (d : ℕ) → number_of (take 4 (drop (4 * d) bits)) < 16
-four_below bits d = number_of-lt (take 4 (drop (4 * d) bits)) 4 (omega (arith, length-take 4 (drop (4 * d) bits)))
+four_below bits d = number_of-lt (take 4 (drop (4 * d) bits)) 4
+    (omega (arith, length-take 4 (drop (4 * d) bits)))
 
 pub a_digit : (bits : List Bool) (d : ℕ) → IsDigit (hex_digit bits d) (number_of (take 4 (drop (4 * d) bits)))
 a_digit bits d = nibble (number_of (take 4 (drop (4 * d) bits))) (four_below bits d)
@@ -101,7 +119,8 @@ pub padded_split : (m n : ℕ) (bs : List Bool) → padded (m + n) bs ≡ padded
 padded_split zero n bs = let none : 0 + n ≡ n = omega arith in ap (λ k. padded k bs) none
 padded_split (suc m) n [] =
     let more : suc m + n ≡ suc (m + n) = omega arith in
-    ap (λ k. padded k []) more ∙ ap (λ (l : List Bool). false ∷ l) (padded_split m n [] ∙ ap (λ (l : List Bool). padded m [] ++ padded n l) (drop_nil m))
+    ap (λ k. padded k []) more ∙ ap (λ (l : List Bool). false ∷ l)
+    (padded_split m n [] ∙ ap (λ (l : List Bool). padded m [] ++ padded n l) (drop_nil m))
   where
     drop_nil : (m : ℕ) → drop m (let l : List Bool = [] in l) ≡ []
     drop_nil zero = refl
@@ -128,7 +147,8 @@ padded_zeros (suc n) = ap (λ (l : List Bool). false ∷ l) (padded_zeros n)
 padded_is : (n : ℕ) (bs : List Bool) → length bs ≤ n → padded n bs ≡ bs ++ replicate (n - length bs) false
 padded_is zero [] h = refl
 padded_is zero (b ∷ bs) h = absurd (omega arith)
-padded_is (suc n) [] h = let same : suc n ≡ suc n - 0 = omega arith in padded_zeros (suc n) ∙ ap (λ k. replicate k false) same
+padded_is (suc n) [] h =
+    let same : suc n ≡ suc n - 0 = omega arith in padded_zeros (suc n) ∙ ap (λ k. replicate k false) same
 padded_is (suc n) (b ∷ bs) h =
     let same : n - length bs ≡ suc n - suc (length bs) = omega arith in
     ap (λ (l : List Bool). b ∷ l) (padded_is n bs (omega arith) ∙ ap (λ k. bs ++ replicate k false) same)
@@ -144,10 +164,14 @@ stands bits =
     let len = length bits in
     let d = (len + 3) / 4 in
     let zeros = replicate (4 * d - len) false in
-    let all : hex_bits (hex_list bits d) ≡ bits ++ zeros = digits_again bits d ∙ padded_is (4 * d) bits (omega arith) in
+    let all : hex_bits (hex_list bits d)
+    ≡ bits ++ zeros = digits_again bits d ∙ padded_is (4 * d) bits (omega arith) in
     record {
-      bits_are = ap (λ (l : List Bool). take len (l ++ replicate len false)) all ∙ ap (take len) (append_assoc bits zeros (replicate len false)) ∙ take_at bits (zeros ++ replicate len false) len refl;
-      narrow = ap (λ (l : List Bool). has_one (drop len l)) all ∙ ap has_one (drop_at bits zeros len refl) ∙ no_one (4 * d - len);
+      bits_are = ap (λ (l : List Bool). take len (l ++ replicate len false)) all
+          ∙ ap (take len) (append_assoc bits zeros (replicate len false))
+          ∙ take_at bits (zeros ++ replicate len false) len refl;
+      narrow = ap (λ (l : List Bool). has_one (drop len l)) all
+          ∙ ap has_one (drop_at bits zeros len refl) ∙ no_one (4 * d - len);
     }
 
 -- ---- decimal numbers
@@ -168,13 +192,20 @@ pub a_decimal : (v : ℕ) → v < 10 → IsDecimal (48 + v)
 a_decimal zero h = record { digit = refl; blank = refl; mark = refl; quiet = refl; letter = refl }
 a_decimal (suc zero) h = record { digit = refl; blank = refl; mark = refl; quiet = refl; letter = refl }
 a_decimal (suc (suc zero)) h = record { digit = refl; blank = refl; mark = refl; quiet = refl; letter = refl }
-a_decimal (suc (suc (suc zero))) h = record { digit = refl; blank = refl; mark = refl; quiet = refl; letter = refl }
-a_decimal (suc (suc (suc (suc zero)))) h = record { digit = refl; blank = refl; mark = refl; quiet = refl; letter = refl }
-a_decimal (suc (suc (suc (suc (suc zero))))) h = record { digit = refl; blank = refl; mark = refl; quiet = refl; letter = refl }
-a_decimal (suc (suc (suc (suc (suc (suc zero)))))) h = record { digit = refl; blank = refl; mark = refl; quiet = refl; letter = refl }
-a_decimal (suc (suc (suc (suc (suc (suc (suc zero))))))) h = record { digit = refl; blank = refl; mark = refl; quiet = refl; letter = refl }
-a_decimal (suc (suc (suc (suc (suc (suc (suc (suc zero)))))))) h = record { digit = refl; blank = refl; mark = refl; quiet = refl; letter = refl }
-a_decimal (suc (suc (suc (suc (suc (suc (suc (suc (suc zero))))))))) h = record { digit = refl; blank = refl; mark = refl; quiet = refl; letter = refl }
+a_decimal (suc (suc (suc zero))) h =
+    record { digit = refl; blank = refl; mark = refl; quiet = refl; letter = refl }
+a_decimal (suc (suc (suc (suc zero)))) h =
+    record { digit = refl; blank = refl; mark = refl; quiet = refl; letter = refl }
+a_decimal (suc (suc (suc (suc (suc zero))))) h =
+    record { digit = refl; blank = refl; mark = refl; quiet = refl; letter = refl }
+a_decimal (suc (suc (suc (suc (suc (suc zero)))))) h =
+    record { digit = refl; blank = refl; mark = refl; quiet = refl; letter = refl }
+a_decimal (suc (suc (suc (suc (suc (suc (suc zero))))))) h =
+    record { digit = refl; blank = refl; mark = refl; quiet = refl; letter = refl }
+a_decimal (suc (suc (suc (suc (suc (suc (suc (suc zero)))))))) h =
+    record { digit = refl; blank = refl; mark = refl; quiet = refl; letter = refl }
+a_decimal (suc (suc (suc (suc (suc (suc (suc (suc (suc zero))))))))) h =
+    record { digit = refl; blank = refl; mark = refl; quiet = refl; letter = refl }
 a_decimal (suc (suc (suc (suc (suc (suc (suc (suc (suc (suc v)))))))))) h = absurd (omega arith)
 
 -- each byte is one of a decimal number
@@ -208,7 +239,8 @@ all_digits : (bs : List ℕ) → AreDecimal bs → list_all is_ascii_digit bs �
 all_digits [] h = refl
 all_digits (b ∷ bs) h = ap (λ c. c && list_all is_ascii_digit bs) h.0.digit ∙ all_digits bs h.1
 
-number_at : (w : List ℕ) (a b c : Bool) → nat_le 1 (length w) ≡ a → nat_le (length w) 10 ≡ b → list_all is_ascii_digit w ≡ c → number w ≡ cond (a && (b && c)) (Some (number_from 0 w)) None
+number_at : (w : List ℕ) (a b c : Bool) → nat_le 1 (length w) ≡ a → nat_le (length w) 10 ≡ b
+    → list_all is_ascii_digit w ≡ c → number w ≡ cond (a && (b && c)) (Some (number_from 0 w)) None
 number_at w a b c ea eb ec =
     ap (λ k. cond (k && (nat_le (length w) 10 && list_all is_ascii_digit w)) (Some (number_from 0 w)) None) ea
     ∙ ap (λ k. cond (a && (k && list_all is_ascii_digit w)) (Some (number_from 0 w)) None) eb

@@ -1,5 +1,7 @@
 -- The bits of digits, 64 at a time.
-use Rattle.std.proofs.Common.{◌≡◌, ℕ, zero, suc, ◌+◌, ◌*◌, ◌/◌, ◌%◌, ◌^◌, ◌<◌, ◌≤◌, Bool, true, false, not, cond, List, [], ◌∷◌, ◌++◌, length, take, drop, replicate, refl, ap, sym, ◌∙◌, arith, nat_lt}
+use Rattle.std.proofs.Common.{◌≡◌, ℕ, zero, suc, ◌+◌, ◌*◌, ◌/◌, ◌%◌, ◌^◌, ◌<◌, ◌≤◌, Bool, true, false, not}
+use Rattle.std.proofs.Common.{cond, List, [], ◌∷◌, ◌++◌, length, take, drop, replicate, refl, ap, sym, ◌∙◌}
+use Rattle.std.proofs.Common.{arith, nat_lt}
 use Rattle.std.specs.Prelude.{◌==◌, ◌||◌}
 use Rattle.std.proofs.lemmas.Bool.Decides.{nat_tests}
 use Rattle.std.proofs.Math.Nat.{pow-suc, zero-div, div-div-eq-div-mul}
@@ -67,7 +69,8 @@ digit_front v xs =
 pub digit_ones : (v : ℕ) (xs : List Bool) → has_one (bits_of 4 v ++ xs) ≡ (has_one xs || not (v % 16 == 0))
 digit_ones v xs =
     has_one-append (bits_of 4 v) xs
-    ∙ ap (λ k. k || has_one xs) (sym (number_zero (bits_of 4 v)) ∙ ap (λ n. not (n == 0)) (digit_front v [] ∙ omega arith))
+    ∙ ap (λ k. k || has_one xs)
+    (sym (number_zero (bits_of 4 v)) ∙ ap (λ n. not (n == 0)) (digit_front v [] ∙ omega arith))
     ∙ turned (not (v % 16 == 0)) (has_one xs)
   where
     turned : (a b : Bool) → (a || b) ≡ (b || a)
@@ -83,9 +86,11 @@ pub record InParts (digits front last : List ℕ) : Type 0 where
   pub few : length last ≤ 16
   pub lone : length last < 16 → front ≡ []
 
-last_at : (n : ℕ) (digits front last : List ℕ) (t : Bool) → nat_lt (length last) 16 ≡ t → InParts digits front last → n ≤ 64 → padded n (hex_bits digits) ≡ padded n (hex_bits last)
+last_at : (n : ℕ) (digits front last : List ℕ) (t : Bool) → nat_lt (length last) 16 ≡ t
+    → InParts digits front last → n ≤ 64 → padded n (hex_bits digits) ≡ padded n (hex_bits last)
 last_at n digits front last true e parts few =
-    ap (λ (l : List ℕ). padded n (hex_bits l)) (parts.all ∙ ap (λ (l : List ℕ). l ++ last) (parts.lone (grind (arith, nat_tests))))
+    ap (λ (l : List ℕ). padded n (hex_bits l))
+    (parts.all ∙ ap (λ (l : List ℕ). l ++ last) (parts.lone (grind (arith, nat_tests))))
 last_at n digits front last false e parts few =
     let whole : 16 ≤ length last = grind (arith, nat_tests) in
     ap (λ (l : List ℕ). padded n (hex_bits l)) parts.all
@@ -93,11 +98,14 @@ last_at n digits front last false e parts few =
     ∙ padded_front n (hex_bits last) (hex_bits front) (omega (arith, hex_length last))
 
 -- bits of the last part are those of its number
-pub last_bits : (n : ℕ) (digits front last : List ℕ) → InParts digits front last → n ≤ 64 → fitted n (hex_bits digits) ≡ bits_of n (number_of (hex_bits last))
+pub last_bits : (n : ℕ) (digits front last : List ℕ) → InParts digits front last → n ≤ 64
+    → fitted n (hex_bits digits) ≡ bits_of n (number_of (hex_bits last))
 last_bits n digits front last parts few =
-    fitted_is n (hex_bits digits) ∙ last_at n digits front last (nat_lt (length last) 16) refl parts few ∙ sym (bits_again n (hex_bits last))
+    fitted_is n (hex_bits digits) ∙ last_at n digits front last (nat_lt (length last) 16) refl parts few
+    ∙ sym (bits_again n (hex_bits last))
 
-left_at : (digits front last : List ℕ) (t : Bool) → nat_lt (length last) 16 ≡ t → InParts digits front last → drop 64 (hex_bits digits) ≡ hex_bits front
+left_at : (digits front last : List ℕ) (t : Bool) → nat_lt (length last) 16 ≡ t → InParts digits front last
+    → drop 64 (hex_bits digits) ≡ hex_bits front
 left_at digits front last true e parts =
     let none = parts.lone (grind (arith, nat_tests)) in
     ap (λ (l : List ℕ). drop 64 (hex_bits l)) (parts.all ∙ ap (λ (l : List ℕ). l ++ last) none)
@@ -110,9 +118,11 @@ left_at digits front last false e parts =
     ∙ drop_at (hex_bits last) (hex_bits front) 64 (omega (arith, hex_length last, parts.few))
 
 -- after 64 bits more
-pub left_more : (k : ℕ) (all : List Bool) (digits front last : List ℕ) → InParts digits front last → drop k all ≡ hex_bits digits → drop (k + 64) all ≡ hex_bits front
+pub left_more : (k : ℕ) (all : List Bool) (digits front last : List ℕ) → InParts digits front last
+    → drop k all ≡ hex_bits digits → drop (k + 64) all ≡ hex_bits front
 left_more k all digits front last parts is =
-    sym (drop-drop 64 k all) ∙ ap (drop 64) is ∙ left_at digits front last (nat_lt (length last) 16) refl parts
+    sym (drop-drop 64 k all) ∙ ap (drop 64) is
+    ∙ left_at digits front last (nat_lt (length last) 16) refl parts
 
 -- ---- what has no place
 
@@ -122,12 +132,15 @@ halved n x = div-div-eq-div-mul x 2 (2 ^ n) ∙ ap (λ k. x / k) (omega (arith, 
 number_drop : (n : ℕ) (bs : List Bool) → number_of (drop n bs) ≡ number_of bs / 2 ^ n
 number_drop zero bs = omega arith
 number_drop (suc n) [] = sym (zero-div (2 ^ suc n))
-number_drop (suc n) (b ∷ bs) = number_drop n bs ∙ ap (λ k. k / 2 ^ n) (sym (high_bits b (number_of bs))) ∙ halved n (number_of (b ∷ bs))
+number_drop (suc n) (b ∷ bs) = number_drop n bs
+    ∙ ap (λ k. k / 2 ^ n) (sym (high_bits b (number_of bs))) ∙ halved n (number_of (b ∷ bs))
 
 above : (n : ℕ) (bs : List Bool) → has_one (drop n bs) ≡ not (number_of bs / 2 ^ n == 0)
 above n bs = sym (number_zero (drop n bs)) ∙ ap (λ k. not (k == 0)) (number_drop n bs)
 
-wide_at : (n : ℕ) (digits front last : List ℕ) (t : Bool) → nat_lt (length last) 16 ≡ t → InParts digits front last → n ≤ 64 → has_one (drop n (hex_bits digits)) ≡ (has_one (drop n (hex_bits last)) || has_one (hex_bits front))
+wide_at : (n : ℕ) (digits front last : List ℕ) (t : Bool)
+    → nat_lt (length last) 16 ≡ t → InParts digits front last → n ≤ 64
+    → has_one (drop n (hex_bits digits)) ≡ (has_one (drop n (hex_bits last)) || has_one (hex_bits front))
 wide_at n digits front last true e parts few =
     let none = parts.lone (grind (arith, nat_tests)) in
     ap (λ (l : List ℕ). has_one (drop n (hex_bits l))) (parts.all ∙ ap (λ (l : List ℕ). l ++ last) none)
@@ -145,14 +158,17 @@ wide_at n digits front last false e parts few =
     ∙ has_one-append (drop n (hex_bits last)) (hex_bits front)
 
 -- a 1 after the last bits stands in the last part's number, or in the front
-pub wide_is : (k n : ℕ) (all : List Bool) (digits front last : List ℕ) → InParts digits front last → n ≤ 64 → drop k all ≡ hex_bits digits → has_one (drop (k + n) all) ≡ (not (number_of (hex_bits last) / 2 ^ n == 0) || has_one (hex_bits front))
+pub wide_is : (k n : ℕ) (all : List Bool) (digits front last : List ℕ)
+    → InParts digits front last → n ≤ 64 → drop k all ≡ hex_bits digits
+    → has_one (drop (k + n) all) ≡ (not (number_of (hex_bits last) / 2 ^ n == 0) || has_one (hex_bits front))
 wide_is k n all digits front last parts few is =
     ap has_one (sym (drop-drop n k all) ∙ ap (drop n) is)
     ∙ wide_at n digits front last (nat_lt (length last) 16) refl parts few
     ∙ ap (λ b. b || has_one (hex_bits front)) (above n (hex_bits last))
 
 -- the same of all bits
-pub word_wide : (n : ℕ) (digits front last : List ℕ) → InParts digits front last → n ≤ 64 → is_wide n (hex_bits digits) ≡ (not (number_of (hex_bits last) / 2 ^ n == 0) || has_one (hex_bits front))
+pub word_wide : (n : ℕ) (digits front last : List ℕ) → InParts digits front last → n ≤ 64
+    → is_wide n (hex_bits digits) ≡ (not (number_of (hex_bits last) / 2 ^ n == 0) || has_one (hex_bits front))
 unfolding is_wide
 word_wide n digits front last parts few =
     let all : n ≡ 0 + n = omega arith in

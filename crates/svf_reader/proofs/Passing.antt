@@ -1,5 +1,6 @@
 -- Bytes that a run passes without a second look.
-use Rattle.std.proofs.Common.{◌≡◌, ℕ, zero, suc, ◌+◌, ◌≤◌, true, false, not, List, [], ◌∷◌, length, take, drop, refl, ap, sym, ◌∙◌, arith}
+use Rattle.std.proofs.Common.{◌≡◌, ℕ, zero, suc, ◌+◌, ◌≤◌, true, false, not, List, [], ◌∷◌, length, take}
+use Rattle.std.proofs.Common.{drop, refl, ap, sym, ◌∙◌, arith}
 use Rattle.std.specs.Prelude.{◌==◌, ◌&&◌, ◌||◌}
 use Rattle.std.specs.List.{list_all}
 use Rattle.std.proofs.lemmas.Bool.Decides.{nat_tests}
@@ -31,10 +32,14 @@ passed_class Command b h = grind (arith, nat_tests)
 
 -- ---- bytes that are passed
 
-pub pass_one : (class : Class) (b : ℕ) (bs : List ℕ) → is_passed class b ≡ true → run_length class false (b ∷ bs) ≡ suc (run_length class false bs)
-pass_one class b bs h = run_on class false false (b ∷ bs) bs b refl (passed_opens class b (first bs) h) (passed_class class b h)
+pub pass_one : (class : Class) (b : ℕ) (bs : List ℕ) → is_passed class b ≡ true
+    → run_length class false (b ∷ bs) ≡ suc (run_length class false bs)
+pass_one class b bs h =
+    run_on class false false (b ∷ bs) bs b refl (passed_opens class b (first bs) h) (passed_class class b h)
 
-pub pass_many : (class : Class) (k : ℕ) (text : List ℕ) → k ≤ length text → list_all (is_passed class) (take k text) ≡ true → run_length class false text ≡ k + run_length class false (drop k text)
+pub pass_many : (class : Class) (k : ℕ) (text : List ℕ) → k ≤ length text
+    → list_all (is_passed class) (take k text) ≡ true
+    → run_length class false text ≡ k + run_length class false (drop k text)
 pass_many class zero text within h =
     let same : run_length class false text ≡ 0 + run_length class false text = omega arith in
     same
@@ -43,7 +48,8 @@ pass_many class (suc k) (b ∷ bs) within h =
     let both = and_parts (is_passed class b) (list_all (is_passed class) (take k bs)) h in
     let here = pass_one class b bs both.0 in
     let more = pass_many class k bs (omega arith) both.1 in
-    let all : run_length class false (b ∷ bs) ≡ suc k + run_length class false (drop k bs) = omega (arith, here, more) in
+    let all : run_length class false (b ∷ bs)
+    ≡ suc k + run_length class false (drop k bs) = omega (arith, here, more) in
     all
 
 -- ---- bytes that end a run
@@ -60,11 +66,13 @@ end_class Word b h = ap not h
 end_class Run b h = grind (arith, nat_tests)
 end_class Command b h = ap not h
 
-pub ends_here : (class : Class) (text : List ℕ) (b : ℕ) → b ≡ first text → is_end class b ≡ true → 0 ≡ run_length class false text
+pub ends_here : (class : Class) (text : List ℕ) (b : ℕ) → b ≡ first text
+    → is_end class b ≡ true → 0 ≡ run_length class false text
 ends_here class [] b is h = refl
 ends_here class (x ∷ xs) b is h =
     let at : is_end class x ≡ true = sym (ap (is_end class) is) ∙ h in
-    sym (run_stops class false false (x ∷ xs) xs x refl (end_opens class x (first xs) at) (end_class class x at))
+    sym (run_stops class false false (x ∷ xs) xs x refl
+    (end_opens class x (first xs) at) (end_class class x at))
 
 -- ---- short gaps
 
@@ -83,7 +91,8 @@ no_gap_here (x ∷ xs) b is h =
     let at : ends_gap x ≡ true = sym (ap ends_gap is) ∙ h in
     sym (run_stops Gap false false (x ∷ xs) xs x refl (ends_opens x (first xs) at) (ends_blank x at))
 
-pub one_blank : (text : List ℕ) (b c : ℕ) → b ≡ first text → is_blank b ≡ true → c ≡ first (drop 1 text) → ends_gap c ≡ true → 1 ≡ run_length Gap false text
+pub one_blank : (text : List ℕ) (b c : ℕ) → b ≡ first text → is_blank b ≡ true → c ≡ first (drop 1 text)
+    → ends_gap c ≡ true → 1 ≡ run_length Gap false text
 one_blank [] b c is h next ends = absurd (let e = ap is_blank (sym is) ∙ h in cc)
 one_blank (x ∷ xs) b c is h next ends =
     let at : is_blank x ≡ true = sym (ap is_blank is) ∙ h in

@@ -4,10 +4,17 @@ use Rattle.svf_writer.specs.SeenCommands.{SeenScan}
 use Rattle.svf_reader.specs.Commands.{Parts}
 use Rattle.ij_text.specs.declared.Place.{Place}
 use Rattle.svf_reader.specs.declared.fault.SvfFault.{SvfFault}
-use Rattle.svf_reader.specs.declared.fault.SvfFault.TheVariants.{LeftOut as FaultLeftOut, SvfSyntax as FaultSyntax, SvfLimit as FaultLimit, HexWide as FaultWide, TdiMissing as FaultNoTdi, OutOfMemory as FaultOutOfMemory}
+use Rattle.svf_reader.specs.declared.fault.SvfFault.TheVariants.{LeftOut as FaultLeftOut}
+use Rattle.svf_reader.specs.declared.fault.SvfFault.TheVariants.{SvfSyntax as FaultSyntax}
+use Rattle.svf_reader.specs.declared.fault.SvfFault.TheVariants.{SvfLimit as FaultLimit, HexWide as FaultWide}
+use Rattle.svf_reader.specs.declared.fault.SvfFault.TheVariants.{TdiMissing as FaultNoTdi}
+use Rattle.svf_reader.specs.declared.fault.SvfFault.TheVariants.{OutOfMemory as FaultOutOfMemory}
 use Rattle.svf_reader.specs.declared.fault.SvfCause.{SvfCause}
-use Rattle.svf_reader.specs.declared.fault.SvfCause.TheVariants.{LeftOut as IsLeftOut, SvfSyntax as Syntax, SvfLimit as Limit, HexWide as Wide, TdiMissing as NoTdi, OutOfMemory}
-use Rattle.svf_reader.specs.Meaning.{Cause, LeftOut, SvfSyntax, SvfLimit, HexWide, TdiMissing, part_wide, part_of, svf}
+use Rattle.svf_reader.specs.declared.fault.SvfCause.TheVariants.{LeftOut as IsLeftOut, SvfSyntax as Syntax}
+use Rattle.svf_reader.specs.declared.fault.SvfCause.TheVariants.{SvfLimit as Limit, HexWide as Wide}
+use Rattle.svf_reader.specs.declared.fault.SvfCause.TheVariants.{TdiMissing as NoTdi, OutOfMemory}
+use Rattle.svf_reader.specs.Meaning.{Cause, LeftOut, SvfSyntax, SvfLimit, HexWide, TdiMissing, part_wide}
+use Rattle.svf_reader.specs.Meaning.{part_of, svf}
 use Rattle.ij_text.specs.Places.{place_at}
 
 -- the cause, unless memory ran out
@@ -26,7 +33,8 @@ Gives view (Err e) read = Fails e read
 
 -- ---- scans, part after part
 
-abbrev pub and_part : {X : Type 0} → Result (Option (List Bool)) Cause → (Option (List Bool) → Result X Cause) → Result X Cause
+abbrev pub and_part : {X : Type 0} → Result (Option (List Bool)) Cause
+    → (Option (List Bool) → Result X Cause) → Result X Cause
 and_part (Ok part) next = next part
 and_part (Err cause) next = Err cause
 
@@ -35,14 +43,16 @@ part_value len digits = cond (part_wide len digits) (Err HexWide) (Ok (part_of l
 
 unfoldable pub scan_value : ℕ → Parts → Result SeenScan Cause
 scan_value len p =
-    and_part (part_value len p.tdi) (λ tdi. and_part (part_value len p.tdo) (λ tdo. and_part (part_value len p.mask) (λ mask. and_part (part_value len p.smask) (λ smask.
+    and_part (part_value len p.tdi) (λ tdi. and_part (part_value len p.tdo)
+    (λ tdo. and_part (part_value len p.mask) (λ mask. and_part (part_value len p.smask) (λ smask.
     Ok (record { len = len; tdi = tdi; tdo = tdo; mask = mask; smask = smask })))))
 
 -- ---- places
 
 -- a text is refused for this cause, at the place of a command's first byte
 abbrev pub IsRefused : List ℕ → Cause → Place → Type 0
-IsRefused src cause at = (start : ℕ) × (svf src ≡ Err (record { cause = cause; start = start })) × (at ≡ place_at src start)
+IsRefused src cause at = (start : ℕ)
+    × (svf src ≡ Err (record { cause = cause; start = start })) × (at ≡ place_at src start)
 
 abbrev pub Refuses : List ℕ → SvfFault → Type 0
 Refuses src (FaultLeftOut at word) = IsRefused src (LeftOut word.items) at

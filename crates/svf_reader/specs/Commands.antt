@@ -1,6 +1,7 @@
--- The commands of SVF that are read here, as lists of words (Serial Vector Format, revision E). A word says a name in
--- either case.
-use Rattle.std.specs.Prelude.{ℕ, zero, suc, ◌+◌, ◌-◌, ◌*◌, ◌==◌, nat_le, Bool, true, false, ◌&&◌, ◌||◌, cond, List, [], ◌∷◌, ◌++◌, length, Option, Some, None, codes}
+-- The commands of SVF that are read here, as lists of words (Serial Vector Format, revision E). A word says a
+-- name in either case.
+use Rattle.std.specs.Prelude.{ℕ, zero, suc, ◌+◌, ◌-◌, ◌*◌, ◌==◌, nat_le, Bool, true, false, ◌&&◌, ◌||◌, cond}
+use Rattle.std.specs.Prelude.{List, [], ◌∷◌, ◌++◌, length, Option, Some, None, codes}
 use Rattle.std.specs.Option.{option_map}
 use Rattle.std.specs.List.{list_all, list_any}
 use Rattle.std.specs.Str.{bytes_eq, str_eq_ignore_ascii_case}
@@ -31,7 +32,8 @@ number_from n (b ∷ bs) = number_from (10 * n + (b - 48)) bs
 
 -- the number of 1 to 10 digits
 abbrev pub number : List ℕ → Option ℕ
-number w = cond (nat_le 1 (length w) && (nat_le (length w) 10 && list_all is_ascii_digit w)) (Some (number_from 0 w)) None
+number w = cond (nat_le 1 (length w) && (nat_le (length w) 10 && list_all is_ascii_digit w))
+    (Some (number_from 0 w)) None
 
 -- ---- scans
 
@@ -54,7 +56,8 @@ is_close w = bytes_eq w (codes ")")
 -- the words after those of a hexadecimal text and its `)`; `some`: whether a digit of the text stands before
 abbrev pub after_hex : Bool → List (List ℕ) → Option (List (List ℕ))
 after_hex some [] = None
-after_hex some (w ∷ ws) = cond (is_close w) (cond some (Some ws) None) (cond (list_all is_ascii_hexdigit w) (after_hex true ws) None)
+after_hex some (w ∷ ws) = cond (is_close w) (cond some (Some ws) None)
+    (cond (list_all is_ascii_hexdigit w) (after_hex true ws) None)
 
 -- the digits before the `)`
 abbrev pub hex_digits : List (List ℕ) → List ℕ
@@ -81,7 +84,8 @@ both (Some p) (Some rest) = Some (p, rest)
 -- after a part's name: `(`, one or more hexadecimal digits, and `)`
 unfoldable pub one_part : Parts → List ℕ → List (List ℕ) → Option (Parts × List (List ℕ))
 one_part p name [] = None
-one_part p name (w ∷ ws) = cond (is_open w) (both (with_part name (hex_digits ws) p) (after_hex false ws)) None
+one_part p name (w ∷ ws) =
+    cond (is_open w) (both (with_part name (hex_digits ws) p) (after_hex false ws)) None
 
 abbrev pub then_parts : Option (Parts × List (List ℕ)) → (Parts → List (List ℕ) → Option Parts) → Option Parts
 then_parts None next = None
@@ -114,13 +118,15 @@ scan register (n ∷ ws) = scan_of register (number n) (parts 4 no_parts ws)
 
 -- "RESET" | "IDLE"
 unfoldable pub state : List (List ℕ) → Option SeenParsed
-state ws = cond (words_are (codes "RESET" ∷ []) ws) (Some ToReset) (cond (words_are (codes "IDLE" ∷ []) ws) (Some ToIdle) None)
+state ws = cond (words_are (codes "RESET" ∷ []) ws) (Some ToReset)
+    (cond (words_are (codes "IDLE" ∷ []) ws) (Some ToIdle) None)
 
 -- [ "IDLE" ] N "TCK" [ "ENDSTATE" "IDLE" ]
 unfoldable pub cycles : List (List ℕ) → Option SeenParsed
 cycles [] = None
 cycles (n ∷ ws) =
-    cond (words_are (codes "TCK" ∷ []) ws || words_are (codes "TCK" ∷ codes "ENDSTATE" ∷ codes "IDLE" ∷ []) ws) (option_map Runs (number n)) None
+    cond (words_are (codes "TCK" ∷ []) ws || words_are
+    (codes "TCK" ∷ codes "ENDSTATE" ∷ codes "IDLE" ∷ []) ws) (option_map Runs (number n)) None
 
 unfoldable pub run_test : List (List ℕ) → Option SeenParsed
 run_test [] = None
@@ -137,7 +143,8 @@ is_frequency (r ∷ ws) = list_all in_real r && words_are (codes "HZ" ∷ []) ws
 
 -- "OFF" | "ABSENT" | "Z"
 unfoldable pub is_trst : List (List ℕ) → Bool
-is_trst ws = words_are (codes "OFF" ∷ []) ws || (words_are (codes "ABSENT" ∷ []) ws || words_are (codes "Z" ∷ []) ws)
+is_trst ws = words_are (codes "OFF" ∷ []) ws ||
+    (words_are (codes "ABSENT" ∷ []) ws || words_are (codes "Z" ∷ []) ws)
 
 abbrev pub no_effect_if : Bool → Option SeenParsed
 no_effect_if b = cond b (Some NoEffect) None
@@ -192,18 +199,21 @@ abbrev pub begins_with_on : List (List ℕ) → Bool
 begins_with_on [] = false
 begins_with_on (w ∷ ws) = is_word (codes "ON") w
 
--- the commands that are left out, by the first word and the text after it: HDR, HIR, TDR and TIR of a length, PIO,
--- PIOMAP, TRST ON, paths of states, and what names a pause state or another way to count; states and ways to count are
--- whole runs of bytes that aren't blank, parentheses and all
+-- the commands that are left out, by the first word and the text after it: HDR, HIR, TDR and TIR of a length,
+-- PIO, PIOMAP, TRST ON, paths of states, and what names a pause state or another way to count; states and
+-- ways to count are whole runs of bytes that aren't blank, parentheses and all
 unfoldable pub is_left_out : List ℕ → List ℕ → Bool
 is_left_out w rest =
     cond (is_one_of headers w) (begins_with_length (words rest))
     (cond (is_one_of (codes "PIO" ∷ codes "PIOMAP" ∷ []) w) true
     (cond (is_word (codes "TRST") w) (begins_with_on (words rest))
-    (cond (is_word (codes "STATE") w) (nat_le 2 (length (runs rest)) || any_is_one_of left_out_names (runs rest))
-    (cond (is_one_of (codes "RUNTEST" ∷ end_states) w) (any_is_one_of (codes "RESET" ∷ []) (runs rest) || any_is_one_of left_out_names (runs rest)) false))))
+    (cond (is_word (codes "STATE") w)
+    (nat_le 2 (length (runs rest)) || any_is_one_of left_out_names (runs rest))
+    (cond (is_one_of (codes "RUNTEST" ∷ end_states) w)
+    (any_is_one_of (codes "RESET" ∷ []) (runs rest) || any_is_one_of left_out_names (runs rest)) false))))
 
--- the first word of a command that is left out, as it stands, by the words and the text after the first of them
+-- the first word of a command that is left out, as it stands, by the words and the text after the first of
+-- them
 unfoldable pub left_out : List (List ℕ) → List ℕ → Option (List ℕ)
 left_out [] rest = None
 left_out (w ∷ ws) rest = cond (is_left_out w rest) (Some w) None

@@ -1,13 +1,15 @@
--- Which commands an SVF text has, or the first command at fault and why (Serial Vector Format, revision E, as far as
--- it is read here).
-use Rattle.std.specs.Prelude.{ℕ, suc, ◌+◌, ◌==◌, nat_le, nat_lt, Bool, true, false, not, ◌&&◌, ◌||◌, cond, List, [], ◌∷◌, ◌++◌, length, Option, Some, None, Result, Ok, Err}
+-- Which commands an SVF text has, or the first command at fault and why (Serial Vector Format, revision E, as
+-- far as it is read here).
+use Rattle.std.specs.Prelude.{ℕ, suc, ◌+◌, ◌==◌, nat_le, nat_lt, Bool, true, false, not, ◌&&◌, ◌||◌, cond}
+use Rattle.std.specs.Prelude.{List, [], ◌∷◌, ◌++◌, length, Option, Some, None, Result, Ok, Err}
 use Rattle.std.specs.Option.{option_map, is_some}
 use Rattle.svf_writer.specs.SeenCommands.{SeenScan, SeenCommand, SIR, SDR, Reset, Idle, Run}
 use Rattle.svf_reader.specs.declared.parsed.Register.{Register}
 use Rattle.svf_reader.specs.declared.parsed.Register.TheVariants.{Instruction, Data}
 use Rattle.svf_reader.specs.declared.so_far.ReadSoFar.{ReadSoFar}
 use Rattle.svf_reader.specs.Texts.{texts, words, plain, after_word, blanks}
-use Rattle.svf_reader.specs.Commands.{Parts, SeenParsed, Scans, ToReset, ToIdle, Runs, NoEffect, command_of_words, left_out}
+use Rattle.svf_reader.specs.Commands.{Parts, SeenParsed, Scans, ToReset, ToIdle, Runs, NoEffect}
+use Rattle.svf_reader.specs.Commands.{command_of_words, left_out}
 use Rattle.svf_reader.specs.Values.{hex_bits, fitted, is_wide}
 
 -- why a command isn't read
@@ -18,8 +20,8 @@ pub data Cause : Type 0 where
   HexWide : Cause
   TdiMissing : Cause
 
--- ---- what is kept from command to command: the length of the last scan of each register, whether the play rests in
--- Test-Logic-Reset, and the clocks so far
+-- ---- what is kept from command to command: the length of the last scan of each register, whether the play
+-- rests in Test-Logic-Reset, and the clocks so far
 
 abbrev pub at_first : ReadSoFar
 at_first = record { ir = None; dr = None; in_reset = true; clocks = 0 }
@@ -48,7 +50,8 @@ Step = Option SeenCommand × ReadSoFar
 -- after so many clocks, if they aren't too many: 1,000,000,000 in all
 abbrev pub within_clock_limit : ReadSoFar → Bool → ℕ → SeenCommand → Result Step Cause
 within_clock_limit kept in_reset n command =
-    cond (nat_le (kept.clocks + n) 1000000000) (Ok (Some command, record kept { in_reset = in_reset; clocks = kept.clocks + n })) (Err SvfLimit)
+    cond (nat_le (kept.clocks + n) 1000000000)
+    (Ok (Some command, record kept { in_reset = in_reset; clocks = kept.clocks + n })) (Err SvfLimit)
 
 -- ---- scans
 
@@ -61,13 +64,20 @@ part_wide len None = false
 part_wide len (Some digits) = is_wide len (hex_bits digits)
 
 abbrev pub any_wide : ℕ → Parts → Bool
-any_wide len p = part_wide len p.tdi || (part_wide len p.tdo || (part_wide len p.mask || part_wide len p.smask))
+any_wide len p = part_wide len p.tdi ||
+    (part_wide len p.tdo || (part_wide len p.mask || part_wide len p.smask))
 
 abbrev pub part_of : ℕ → Option (List ℕ) → Option (List Bool)
 part_of len digits = option_map (λ ds. fitted len (hex_bits ds)) digits
 
 abbrev pub scan_with : ℕ → Parts → SeenScan
-scan_with len p = record { len = len; tdi = part_of len p.tdi; tdo = part_of len p.tdo; mask = part_of len p.mask; smask = part_of len p.smask }
+scan_with len p = record {
+  len = len;
+  tdi = part_of len p.tdi;
+  tdo = part_of len p.tdo;
+  mask = part_of len p.mask;
+  smask = part_of len p.smask;
+}
 
 abbrev pub scan_command : Register → SeenScan → SeenCommand
 scan_command Instruction s = SIR s
@@ -86,7 +96,8 @@ scanned kept register len p =
     cond (nat_lt 65536 len) (Err SvfLimit)
     (cond (any_wide len p) (Err HexWide)
     (cond (tdi_missing (last_length register kept) len p) (Err TdiMissing)
-    (within_clock_limit (with_length register len kept) false (with_leaving_clock kept (scan_clocks register len)) (scan_command register (scan_with len p)))))
+    (within_clock_limit (with_length register len kept) false
+    (with_leaving_clock kept (scan_clocks register len)) (scan_command register (scan_with len p)))))
 
 -- ---- one command
 
@@ -102,10 +113,12 @@ abbrev pub if_parsed : ReadSoFar → Option SeenParsed → Result Step Cause
 if_parsed kept None = Err SvfSyntax
 if_parsed kept (Some s) = effect_of kept s
 
--- what is left out comes before the grammar, and the grammar before the rest; a command without its `;` isn't in the grammar
+-- what is left out comes before the grammar, and the grammar before the rest; a command without its `;` isn't
+-- in the grammar
 abbrev pub unless_left_out : ReadSoFar → Bool → List ℕ → Option (List ℕ) → Result Step Cause
 unless_left_out kept ended text (Some word) = Err (LeftOut word)
-unless_left_out kept ended text None = cond ended (if_parsed kept (command_of_words (words text))) (Err SvfSyntax)
+unless_left_out kept ended text None =
+    cond ended (if_parsed kept (command_of_words (words text))) (Err SvfSyntax)
 
 unfoldable pub read_command : ReadSoFar → Bool → List ℕ → Result Step Cause
 read_command kept ended text = unless_left_out kept ended text (left_out (words text) (after_word text))
@@ -131,7 +144,8 @@ at_end [] r start = Ok []
 at_end (w ∷ ws) (Ok step) start = Ok []
 at_end (w ∷ ws) (Err cause) start = Err (record { cause = cause; start = start })
 
-abbrev pub and_then : Result Step Cause → ℕ → (ReadSoFar → Result (List SeenCommand) Refusal) → Result (List SeenCommand) Refusal
+abbrev pub and_then : Result Step Cause → ℕ
+    → (ReadSoFar → Result (List SeenCommand) Refusal) → Result (List SeenCommand) Refusal
 and_then (Ok step) start next = before (listed step.0) (next step.1)
 and_then (Err cause) start next = Err (record { cause = cause; start = start })
 
@@ -140,7 +154,8 @@ abbrev pub read_from : ReadSoFar → ℕ → List (List ℕ) → Result (List Se
 read_from kept at [] = Ok []
 read_from kept at (t ∷ []) = at_end (words t) (read_command kept false t) (at + blanks t)
 read_from kept at (t ∷ u ∷ us) =
-    and_then (read_command kept true t) (at + blanks t) (λ next. read_from next (suc (at + length t)) (u ∷ us))
+    and_then (read_command kept true t) (at + blanks t)
+    (λ next. read_from next (suc (at + length t)) (u ∷ us))
 
 -- the commands of an SVF text, or why it is refused
 unfoldable pub svf : List ℕ → Result (List SeenCommand) Refusal

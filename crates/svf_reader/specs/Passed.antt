@@ -5,8 +5,8 @@ use Rattle.svf_reader.specs.Texts.{is_mark}
 use Rattle.svf_reader.specs.declared.bytes.Class.{Class}
 use Rattle.svf_reader.specs.declared.bytes.Class.TheVariants.{Gap, Word, Run, Command}
 
--- surely of a class, and nothing that begins a comment: `0` (48) or later in words and runs; in commands neither `;` (59)
--- nor `!` (33) nor `/` (47)
+-- surely of a class, and nothing that begins a comment: `0` (48) or later in words and runs; in commands
+-- neither `;` (59) nor `!` (33) nor `/` (47)
 abbrev pub is_passed : Class → ℕ → Bool
 is_passed Gap b = false
 is_passed Word b = nat_le 48 b

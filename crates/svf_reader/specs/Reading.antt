@@ -15,7 +15,8 @@ in_class Command hidden b = hidden || not (b == 59)
 abbrev pub run_length : Class → Bool → List ℕ → ℕ
 run_length class inside [] = 0
 run_length class inside (b ∷ bs) =
-    cond (in_class class (in_comment inside b (first bs)) b) (suc (run_length class (in_comment inside b (first bs)) bs)) 0
+    cond (in_class class (in_comment inside b (first bs)) b)
+    (suc (run_length class (in_comment inside b (first bs)) bs)) 0
 
 -- how long the first word is, where no gap stands before
 abbrev pub word_length : List ℕ → ℕ

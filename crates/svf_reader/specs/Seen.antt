@@ -19,7 +19,12 @@ digits_of text = hex_digits (words_of text)
 
 abbrev pub seen_parts : PartTexts → Parts
 seen_parts p =
-    record { tdi = option_map (λ t. digits_of t.now) p.tdi; tdo = option_map (λ t. digits_of t.now) p.tdo; mask = option_map (λ t. digits_of t.now) p.mask; smask = option_map (λ t. digits_of t.now) p.smask }
+    record {
+      tdi = option_map (λ t. digits_of t.now) p.tdi;
+      tdo = option_map (λ t. digits_of t.now) p.tdo;
+      mask = option_map (λ t. digits_of t.now) p.mask;
+      smask = option_map (λ t. digits_of t.now) p.smask;
+    }
 
 abbrev pub seen_parsed : Parsed → SeenParsed
 seen_parsed Reset = ToReset

@@ -14,8 +14,8 @@ first (b ∷ bs) = b
 abbrev pub opens : ℕ → ℕ → Bool
 opens b next = b == 33 || (b == 47 && next == 47)
 
--- whether a byte stands in a comment, told from the byte before it and the one after it: a comment lasts up to the
--- line feed that ends its line, which isn't in it
+-- whether a byte stands in a comment, told from the byte before it and the one after it: a comment lasts up
+-- to the line feed that ends its line, which isn't in it
 abbrev pub in_comment : Bool → ℕ → ℕ → Bool
 in_comment true b next = not (b == 10)
 in_comment false b next = opens b next
@@ -23,7 +23,8 @@ in_comment false b next = opens b next
 -- a text with each byte of a comment as a space, so that every other byte keeps its place
 abbrev pub plain_from : Bool → List ℕ → List ℕ
 plain_from inside [] = []
-plain_from inside (b ∷ bs) = cond (in_comment inside b (first bs)) 32 b ∷ plain_from (in_comment inside b (first bs)) bs
+plain_from inside (b ∷ bs) = cond (in_comment inside b (first bs)) 32 b
+    ∷ plain_from (in_comment inside b (first bs)) bs
 
 abbrev pub plain : List ℕ → List ℕ
 plain text = plain_from false text

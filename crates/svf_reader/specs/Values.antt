@@ -1,4 +1,5 @@
--- The bits of a hexadecimal text (Serial Vector Format, revision E): position 0 is the lowest bit of the last digit.
+-- The bits of a hexadecimal text (Serial Vector Format, revision E): position 0 is the lowest bit of the last
+-- digit.
 use Rattle.std.specs.Prelude.{ℕ, Bool, false, List, [], ◌∷◌, ◌++◌, take, drop, replicate}
 use Rattle.ij_bits.specs.BitLists.{bits_of, has_one}
 use Rattle.ij_text.specs.Numbers.{hex_value as digit_value}

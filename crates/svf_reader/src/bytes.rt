@@ -34,8 +34,8 @@ pub(crate) fn byte_at(text: &[u8], i: usize) -> u8
     if i < text.len() { text[i] } else { 0 }
 }
 
-/// Whether a byte is in a comment, by whether the one before it is, and the one at an index, which is the next one. From
-/// `0` on no byte begins or ends a comment.
+/// Whether a byte is in a comment, by whether the one before it is, and the one at an index, which is the
+/// next one. From `0` on no byte begins or ends a comment.
 fn in_comment(inside: bool, b: u8, text: &[u8], next: usize) -> bool
     ensures { result ≡ in_comment inside b (first (drop next text.now)) }
 {
@@ -79,8 +79,8 @@ pub(crate) fn run_len(text: &[u8], class: Class) -> usize
     n
 }
 
-/// Whether a byte outside of comments is surely of a class and begins no comment. A byte of which this is false may be of the class all
-/// the same. It is found without a branch.
+/// Whether a byte outside of comments is surely of a class and begins no comment. A byte of which this is
+/// false may be of the class all the same. It is found without a branch.
 #[inline(always)]
 fn is_passed(class: Class, b: u8) -> bool
     ensures { result ≡ is_passed class b }
@@ -119,7 +119,8 @@ fn block_size(class: Class) -> usize
 #[inline(always)]
 fn after_blocks(class: Class, size: usize, text: &[u8]) -> &[u8]
     requires some { 1 ≤ size }
-    ensures value { run_length class false text.now + length result.now ≡ length text.now + run_length class false result.now }
+    ensures value { run_length class false text.now + length result.now
+        ≡ length text.now + run_length class false result.now }
     ensures within { length result.now ≤ length text.now }
 {
     let mut rest = text;

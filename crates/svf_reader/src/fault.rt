@@ -6,7 +6,8 @@ ghost use Rattle.svf_reader.specs.declared.fault.SvfCause.TheVariants as cause;
 use ij_bits::OutOfMemory;
 use ij_text::{Name, Place};
 
-/// Why an SVF text is refused: the cause of the first command at fault, and the place of that command's first byte.
+/// Why an SVF text is refused: the cause of the first command at fault, and the place of that command's first
+/// byte.
 #[derive(Drop)]
 pub enum SvfFault {
     /// The command doesn't fit the grammar.

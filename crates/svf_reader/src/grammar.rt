@@ -1,7 +1,10 @@
 // The commands of the grammar.
-ghost use Rattle.std.specs.Prelude.{MatchBool, MatchOption, ◌≡◌, ◌<◌, ◌==◌, false, codes, option_map, Some, None, IfSome};
+ghost use Rattle.std.specs.Prelude.{MatchBool, MatchOption, ◌≡◌, ◌<◌, ◌==◌, false, codes, option_map, Some};
+ghost use Rattle.std.specs.Prelude.{None, IfSome};
 ghost use Rattle.std.specs.List.{list_all};
-ghost use Rattle.svf_reader.specs.Commands.{is_word, with_part, after_hex, one_part, parts, no_parts, state, cycles, run_test, in_real, is_frequency, is_trst, no_effect_if, parsed_by};
+ghost use Rattle.svf_reader.specs.Commands.{is_word, with_part, after_hex, one_part, parts, no_parts, state};
+ghost use Rattle.svf_reader.specs.Commands.{cycles, run_test, in_real, is_frequency, is_trst, no_effect_if};
+ghost use Rattle.svf_reader.specs.Commands.{parsed_by};
 ghost use Rattle.svf_reader.specs.Reading.{words_of};
 ghost use Rattle.svf_reader.specs.Seen.{digits_of, seen_parts, seen_parsed};
 
@@ -31,7 +34,8 @@ fn after_hex(text: &[u8]) -> Option<&[u8]>
 
 /// Puts a part to the others, if it doesn't stand there yet.
 fn with_part<'a>(name: &[u8], text: &'a [u8], parts: &mut PartTexts<'a>) -> bool
-    ensures { MatchBool result (with_part name.now (digits_of text.now) (seen_parts parts.old) ≡ Some (seen_parts parts.new)) (with_part name.now (digits_of text.now) (seen_parts parts.old) ≡ None) }
+    ensures { MatchBool result (with_part name.now (digits_of text.now) (seen_parts parts.old) ≡ Some
+        (seen_parts parts.new)) (with_part name.now (digits_of text.now) (seen_parts parts.old) ≡ None) }
 {
     if is_word(name, b"TDI") {
         let free = parts.tdi.is_none();
@@ -87,7 +91,8 @@ fn is_close_byte(b: u8) -> bool
     b == b')'
 }
 
-/// Digits that stand together at the front of a text, and the `)` right after them. Gaps are looked for elsewhere.
+/// Digits that stand together at the front of a text, and the `)` right after them. Gaps are looked for
+/// elsewhere.
 fn lone_digits(text: &[u8]) -> Option<HexText<'_>>
     ensures rest { IfSome result (λ x. Some (words_of x.rest.now) ≡ after_hex false (words_of text.now)) }
     ensures digits { IfSome result (λ x. digits_of x.digits.now ≡ digits_of text.now) }
@@ -121,7 +126,9 @@ fn part_text(text: &[u8]) -> Option<HexText<'_>>
 /// Puts one more part to the others, of which this is the text after the name. The text after it.
 #[tactic(auto, unfolding(crate::specs::Commands::one_part))]
 fn one_part<'a>(parts: &mut PartTexts<'a>, name: &[u8], text: &'a [u8]) -> Option<&'a [u8]>
-    ensures { MatchOption result (one_part (seen_parts parts.old) name.now (words_of text.now) ≡ None) (λ rest. one_part (seen_parts parts.old) name.now (words_of text.now) ≡ Some (seen_parts parts.new, words_of rest.now)) }
+    ensures { MatchOption result (one_part (seen_parts parts.old) name.now (words_of text.now) ≡ None)
+        (λ rest. one_part (seen_parts parts.old) name.now (words_of text.now)
+        ≡ Some (seen_parts parts.new, words_of rest.now)) }
 {
     let open = next_word(text)?;
     if !is_open(open.piece) {

@@ -1,5 +1,6 @@
 // Hexadecimal texts as bits.
-ghost use Rattle.std.specs.Prelude.{◌≡◌, ◌+◌, ◌^◌, ◌/◌, ◌%◌, ◌<◌, ◌≤◌, ◌==◌, not, [], ◌++◌, length, drop, Some, IfOk};
+ghost use Rattle.std.specs.Prelude.{◌≡◌, ◌+◌, ◌^◌, ◌/◌, ◌%◌, ◌<◌, ◌≤◌, ◌==◌, not, [], ◌++◌, length, drop};
+ghost use Rattle.std.specs.Prelude.{Some, IfOk};
 ghost use Rattle.ij_bits.specs.BitLists.{number_of, has_one};
 ghost use Rattle.ij_text.specs.Numbers.{hex_value as digit_value};
 ghost use Rattle.svf_reader.specs.Answers.{Gives, part_value};

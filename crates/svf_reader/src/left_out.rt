@@ -1,6 +1,7 @@
 // Commands of SVF that are left out.
 ghost use Rattle.std.specs.Prelude.{◌≡◌, ◌∷◌, nat_le, length, option_map};
-ghost use Rattle.svf_reader.specs.Commands.{begins_with_length, begins_with_on, is_left_out, left_out, left_out_names, any_is_one_of};
+ghost use Rattle.svf_reader.specs.Commands.{begins_with_length, begins_with_on, is_left_out, left_out};
+ghost use Rattle.svf_reader.specs.Commands.{left_out_names, any_is_one_of};
 ghost use Rattle.svf_reader.specs.Reading.{words_of, runs_of};
 ghost use Rattle.svf_reader.specs.Texts.{plain};
 
@@ -66,7 +67,8 @@ fn is_left_out(word: &[u8], text: &[u8]) -> bool
 /// The first word of a command, if the command is left out.
 #[tactic(auto, unfolding(crate::specs::Commands::left_out))]
 pub(crate) fn left_out<'a>(first: Piece<'a>) -> Option<&'a [u8]>
-    ensures { option_map (λ word. word.now) result ≡ left_out (first.entry.piece.now ∷ words_of first.entry.rest.now) (plain first.entry.rest.now) }
+    ensures { option_map (λ word. word.now) result
+        ≡ left_out (first.entry.piece.now ∷ words_of first.entry.rest.now) (plain first.entry.rest.now) }
 {
     // most commands
     if is_one_of(first.piece, &[b"SDR", b"SIR"]) {

@@ -4,7 +4,9 @@ ghost use Rattle.svf_writer.specs.SeenCommands.{seen_scan, seen_command};
 ghost use Rattle.svf_reader.specs.Answers.{Gives, part_value, scan_value};
 ghost use Rattle.svf_reader.specs.Commands.{Runs, command_of_words, scan};
 ghost use Rattle.svf_reader.specs.Reading.{words_of};
-ghost use Rattle.svf_reader.specs.Meaning.{last_length, with_length, other_length, tdi_missing, scan_clocks, with_leaving_clock, within_clock_limit, scan_command, scanned, effect_of, if_parsed, read_command};
+ghost use Rattle.svf_reader.specs.Meaning.{last_length, with_length, other_length, tdi_missing, scan_clocks};
+ghost use Rattle.svf_reader.specs.Meaning.{with_leaving_clock, within_clock_limit, scan_command, scanned};
+ghost use Rattle.svf_reader.specs.Meaning.{effect_of, if_parsed, read_command};
 ghost use Rattle.svf_reader.specs.Seen.{Leaves, digits_of, seen_parts, seen_parsed};
 ghost use Rattle.svf_reader.specs.Texts.{plain};
 
@@ -231,7 +233,8 @@ fn command_of_words(
     first: Piece<'_>,
     out: &mut Option<Command>,
 ) -> Result<ReadSoFar, SvfCause>
-    ensures { Leaves out.new result (if_parsed kept (command_of_words (first.entry.piece.now ∷ words_of first.entry.rest.now))) }
+    ensures { Leaves out.new result
+        (if_parsed kept (command_of_words (first.entry.piece.now ∷ words_of first.entry.rest.now))) }
 {
     if is_word(first.piece, b"SIR") {
         scan(alloc, kept, Register::Instruction, first.rest, out)
@@ -245,8 +248,8 @@ fn command_of_words(
     }
 }
 
-/// What a command comes to, of which this is the text, and whether its `;` is there: what is kept after it, and in
-/// `out` the command, if it acts on the controller.
+/// What a command comes to, of which this is the text, and whether its `;` is there: what is kept after it,
+/// and in `out` the command, if it acts on the controller.
 #[tactic(auto, unfolding(crate::specs::Meaning::read_command, crate::specs::Reading::words_of))]
 pub(crate) fn read_command(
     alloc: Global,

@@ -42,7 +42,8 @@ fn word_len(text: &[u8]) -> usize
 /// The first word of a command's text, if there is one. A parenthesis is a word by itself.
 #[inline(always)]
 pub(crate) fn next_word<'a>(text: &'a [u8]) -> Option<Piece<'a>>
-    ensures value { MatchOption result (words_of text.now ≡ []) (λ p. words_of text.now ≡ p.piece.now ∷ words_of p.rest.now) }
+    ensures value { MatchOption result (words_of text.now ≡ [])
+        (λ p. words_of text.now ≡ p.piece.now ∷ words_of p.rest.now) }
     ensures after { IfSome result (λ p. after_word (plain text.now) ≡ plain p.rest.now) }
     ensures shorter { IfSome result (λ p. length p.rest.now < length text.now) }
     ensures within { IfSome result (λ p. length p.piece.now + length p.rest.now ≤ length text.now) }
@@ -57,7 +58,8 @@ pub(crate) fn next_word<'a>(text: &'a [u8]) -> Option<Piece<'a>>
 
 /// The first run of bytes of a command's text that aren't blank, if there is one.
 pub(crate) fn next_run<'a>(text: &'a [u8]) -> Option<Piece<'a>>
-    ensures value { MatchOption result (runs_of text.now ≡ []) (λ p. runs_of text.now ≡ p.piece.now ∷ runs_of p.rest.now) }
+    ensures value { MatchOption result (runs_of text.now ≡ [])
+        (λ p. runs_of text.now ≡ p.piece.now ∷ runs_of p.rest.now) }
     ensures shorter { IfSome result (λ p. length p.rest.now < length text.now) }
 {
     let text = after_gap(text);

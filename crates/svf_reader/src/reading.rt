@@ -1,11 +1,13 @@
 // Whole texts.
-ghost use Rattle.std.specs.Prelude.{◌≡◌, ℕ, ◌+◌, ◌-◌, ◌≤◌, ◌∷◌, ◌++◌, [], length, option_map, MatchOption, IfSome, OnOk, IfOk, IfErr, IsErrOf, IsErr, Ok, Err};
+ghost use Rattle.std.specs.Prelude.{◌≡◌, ℕ, ◌+◌, ◌-◌, ◌≤◌, ◌∷◌, ◌++◌, [], length, option_map, MatchOption};
+ghost use Rattle.std.specs.Prelude.{IfSome, OnOk, IfOk, IfErr, IsErrOf, IsErr, Ok, Err};
 ghost use Rattle.ij_bits.specs.Room.{Listed};
 ghost use Rattle.ij_text.specs.declared.Place.{Place};
 ghost use Rattle.svf_writer.specs.Fits.{AreFit};
 ghost use Rattle.svf_writer.specs.SeenCommands.{seen_command};
 ghost use Rattle.svf_reader.specs.Answers.{AtPlace, Refuses, IsRefused};
-ghost use Rattle.svf_reader.specs.Meaning.{Refusal, LeftOut, SvfSyntax, SvfLimit, HexWide, TdiMissing, listed, svf};
+ghost use Rattle.svf_reader.specs.Meaning.{Refusal, LeftOut, SvfSyntax, SvfLimit, HexWide, TdiMissing};
+ghost use Rattle.svf_reader.specs.Meaning.{listed, svf};
 ghost use Rattle.ij_text.specs.Places.{place_at};
 ghost use Rattle.svf_reader.specs.Commands.{is_scan};
 ghost use Rattle.svf_reader.specs.Texts.{plain, texts, words, blanks};
@@ -21,10 +23,11 @@ use ij_text::{Place, SVF_LIMIT, place_at};
 use std::alloc::Global;
 use svf_writer::{Command, Commands};
 
-/// The text before the next `;` that stands in no comment, if there is one, and the text after that `;`. So it cuts an SVF
-/// text into its commands, with the comments between them. It takes no memory.
+/// The text before the next `;` that stands in no comment, if there is one, and the text after that `;`. So
+/// it cuts an SVF text into its commands, with the comments between them. It takes no memory.
 pub fn next_text<'a>(text: &'a [u8]) -> Option<Piece<'a>>
-    ensures value { MatchOption result (texts (plain text.now) ≡ plain text.now ∷ []) (λ p. texts (plain text.now) ≡ plain p.piece.now ∷ texts (plain p.rest.now)) }
+    ensures value { MatchOption result (texts (plain text.now) ≡ plain text.now ∷ [])
+        (λ p. texts (plain text.now) ≡ plain p.piece.now ∷ texts (plain p.rest.now)) }
     ensures whole { IfSome result (λ p. text.now ≡ p.piece.now ++ 59 ∷ p.rest.now) }
     ensures lengths { IfSome result (λ p. length p.piece.now + 1 + length p.rest.now ≡ length text.now) }
 {
@@ -36,8 +39,8 @@ pub fn next_text<'a>(text: &'a [u8]) -> Option<Piece<'a>>
     Some(Piece { piece, rest })
 }
 
-/// Whether a command is a scan, an SIR or an SDR, of which this is the text before its `;` (Serial Vector Format, revision
-/// E). It takes no memory.
+/// Whether a command is a scan, an SIR or an SDR, of which this is the text before its `;` (Serial Vector
+/// Format, revision E). It takes no memory.
 #[tactic(auto, unfolding(crate::specs::Reading::words_of))]
 pub fn is_scan(text: &[u8]) -> bool
     ensures { result ≡ is_scan (words (plain text.now)) }
@@ -62,7 +65,8 @@ fn refused_at(refused: SvfCause, at: Place) -> SvfFault
     }
 }
 
-/// The place of the first byte of a command, of which this is the text, and from which on so many bytes are left.
+/// The place of the first byte of a command, of which this is the text, and from which on so many bytes are
+/// left.
 fn command_place(src: &[u8], left: usize, text: &[u8]) -> Place
     requires short { length src.now ≤ SVF_LIMIT }
     requires within { left ≤ length src.now }
@@ -144,27 +148,31 @@ fn read(alloc: Global, src: &[u8]) -> Result<Commands, SvfFault>
     }
 }
 
-/// Reads an SVF text (Serial Vector Format, revision E): its commands in order, without those that have no effect here.
+/// Reads an SVF text (Serial Vector Format, revision E): its commands in order, without those that have no
+/// effect here.
 ///
-/// Read are SIR and SDR with TDI, TDO, MASK and SMASK, STATE RESET and STATE IDLE, RUNTEST by TCK; and without effect
-/// HDR, HIR, TDR and TIR of length 0, ENDDR and ENDIR to IDLE, FREQUENCY, and TRST OFF, ABSENT and Z. Words are read in
-/// either case, and blanks and comments may stand between them and in hexadecimal texts. In each list of bits position 0
-/// is the lowest bit of the last digit, so the one that is shifted first.
+/// Read are SIR and SDR with TDI, TDO, MASK and SMASK, STATE RESET and STATE IDLE, RUNTEST by TCK; and
+/// without effect HDR, HIR, TDR and TIR of length 0, ENDDR and ENDIR to IDLE, FREQUENCY, and TRST OFF, ABSENT
+/// and Z. Words are read in either case, and blanks and comments may stand between them and in hexadecimal
+/// texts. In each list of bits position 0 is the lowest bit of the last digit, so the one that is shifted
+/// first.
 ///
-/// The first command at fault decides what is refused, and the fault's place is this command's first byte, which is the
-/// `;` where nothing else stands. In one command the order of the causes is `LeftOut`, `SvfSyntax`, `SvfLimit` for the
-/// length of a scan, `HexWide`, `TdiMissing`, and `SvfLimit` for the clocks. The list takes memory by `alloc`; where
-/// there is none, the answer is `OutOfMemory`.
+/// The first command at fault decides what is refused, and the fault's place is this command's first byte,
+/// which is the `;` where nothing else stands. In one command the order of the causes is `LeftOut`,
+/// `SvfSyntax`, `SvfLimit` for the length of a scan, `HexWide`, `TdiMissing`, and `SvfLimit` for the clocks.
+/// The list takes memory by `alloc`; where there is none, the answer is `OutOfMemory`.
 ///
 /// The text has at most 134,217,728 bytes, as an SVF file may have here; a longer one must not be given.
 pub fn read_svf(alloc: Global, src: &[u8]) -> Result<Commands, SvfFault>
     requires { length src.now ≤ SVF_LIMIT }
     ensures ok { IfOk result (λ commands. svf src.now ≡ Ok commands) }
     ensures refused { (refusal : Refusal) → svf src.now ≡ Err refusal → IsErr result }
-    ensures left_out { (at : Place) (word : Listed ℕ) → IsErrOf result (SvfFault.LeftOut at word) → IsRefused src.now (LeftOut word.items) at }
+    ensures left_out { (at : Place) (word : Listed ℕ) → IsErrOf result (SvfFault.LeftOut at word)
+        → IsRefused src.now (LeftOut word.items) at }
     ensures syntax { (at : Place) → IsErrOf result (SvfFault.SvfSyntax at) → IsRefused src.now SvfSyntax at }
     ensures hex_wide { (at : Place) → IsErrOf result (SvfFault.HexWide at) → IsRefused src.now HexWide at }
-    ensures tdi_missing { (at : Place) → IsErrOf result (SvfFault.TdiMissing at) → IsRefused src.now TdiMissing at }
+    ensures tdi_missing { (at : Place) → IsErrOf result (SvfFault.TdiMissing at)
+        → IsRefused src.now TdiMissing at }
     ensures limit { (at : Place) → IsErrOf result (SvfFault.SvfLimit at) → IsRefused src.now SvfLimit at }
 {
     read(alloc, src)

@@ -2,7 +2,8 @@
 ghost use Rattle.std.specs.Prelude.{◌≡◌, ◌<◌, ◌≤◌, ◌^◌, length, map, IfSome};
 ghost use Rattle.std.specs.List.{list_all};
 ghost use Rattle.std.specs.Char.{is_ascii_hexdigit};
-ghost use Rattle.svf_reader.specs.Commands.{is_open, is_close, is_word, is_one_of, words_are, any_is_one_of, number_from, number};
+ghost use Rattle.svf_reader.specs.Commands.{is_open, is_close, is_word, is_one_of, words_are, any_is_one_of};
+ghost use Rattle.svf_reader.specs.Commands.{number_from, number};
 ghost use Rattle.svf_reader.specs.Reading.{words_of, runs_of};
 
 use crate::pieces::{next_run, next_word};

@@ -38,13 +38,15 @@ given_both [] ys hx hy = hy
 given_both (x ∷ xs) ys hx hy = (hx.0, given_both xs ys hx.1 hy)
 
 -- commands of few clocks are written, where their scans are
-pub few_written : (cs : List SeenCommand) (b : Bool) → AreGiven cs → clocks_from b cs ≤ 999999999 → AreAllWritten cs
+pub few_written : (cs : List SeenCommand) (b : Bool) → AreGiven cs
+    → clocks_from b cs ≤ 999999999 → AreAllWritten cs
 few_written [] b g few = tt
 few_written (SIR s ∷ cs) b g few = (g.0, few_written cs false g.1 (omega (arith, few)))
 few_written (SDR s ∷ cs) b g few = (g.0, few_written cs false g.1 (omega (arith, few)))
 few_written (Reset ∷ cs) b g few = (tt, few_written cs true g.1 (omega (arith, few)))
 few_written (Idle ∷ cs) b g few = (tt, few_written cs false g.1 (omega (arith, few)))
-few_written (Run n ∷ cs) b g few = (omega (arith, few, at_least b n), few_written cs false g.1 (omega (arith, few)))
+few_written (Run n ∷ cs) b g few =
+    (omega (arith, few, at_least b n), few_written cs false g.1 (omega (arith, few)))
 
 -- whether commands end in Test-Logic-Reset
 abbrev pub after : Bool → List SeenCommand → Bool
@@ -55,7 +57,8 @@ after b (Reset ∷ cs) = after true cs
 after b (Idle ∷ cs) = after false cs
 after b (Run n ∷ cs) = after false cs
 
-pub clocks_both : (cs ds : List SeenCommand) (b : Bool) → clocks_from b (cs ++ ds) ≡ clocks_from b cs + clocks_from (after b cs) ds
+pub clocks_both : (cs ds : List SeenCommand) (b : Bool)
+    → clocks_from b (cs ++ ds) ≡ clocks_from b cs + clocks_from (after b cs) ds
 clocks_both [] ds b = omega arith
 clocks_both (SIR s ∷ cs) ds b = omega (arith, clocks_both cs ds false)
 clocks_both (SDR s ∷ cs) ds b = omega (arith, clocks_both cs ds false)

@@ -1,4 +1,5 @@
--- How many clocks of TCK a player of commands takes (Serial Vector Format, revision E: SIR, SDR, STATE, RUNTEST; IEEE 1149.1-2013).
+-- How many clocks of TCK a player of commands takes (Serial Vector Format, revision E: SIR, SDR, STATE,
+-- RUNTEST; IEEE 1149.1-2013).
 use Rattle.std.specs.Prelude.{ℕ, suc, ◌+◌, Bool, true, false, cond, List, [], ◌∷◌}
 use Rattle.svf_writer.specs.SeenCommands.{SeenCommand, SIR, SDR, Reset, Idle, Run}
 

@@ -1,5 +1,6 @@
 // The bits of a part of a scan.
-ghost use Rattle.std.specs.Prelude.{◌==◌, ◌≡◌, ◌↔◌, ◌+◌, ◌^◌, ◌<◌, ◌≤◌, ℕ, false, [], length, slice_index_or, slice_range, unwrap_or, None, Some, IfOk, IsSome, IsTrue};
+ghost use Rattle.std.specs.Prelude.{◌==◌, ◌≡◌, ◌↔◌, ◌+◌, ◌^◌, ◌<◌, ◌≤◌, ℕ, false, [], length, slice_index_or};
+ghost use Rattle.std.specs.Prelude.{slice_range, unwrap_or, None, Some, IfOk, IsSome, IsTrue};
 ghost use Rattle.std.specs.Int.{bit_at};
 ghost use Rattle.ij_bits.specs.BitLists.{bits_of, number_of};
 ghost use Rattle.svf_writer.specs.Lent.{lent};
@@ -19,8 +20,8 @@ pub(crate) enum Stored {
     List(Box<Bits>),
 }
 
-/// A part of a scan: its bits, where it stands in the command. Position 0 is the bit that is shifted first, so the one
-/// nearest TDO. At most 64 bits lie in the value itself.
+/// A part of a scan: its bits, where it stands in the command. Position 0 is the bit that is shifted first,
+/// so the one nearest TDO. At most 64 bits lie in the value itself.
 ///
 /// Contracts see an optional list of bits.
 #[derive(Drop)]
@@ -107,8 +108,8 @@ impl Part {
         }
     }
 
-    /// The number of the `n` bits from position `from` on, the first of them the lowest. It reads one or two words. Takes no
-    /// memory.
+    /// The number of the `n` bits from position `from` on, the first of them the lowest. It reads one or two
+    /// words. Takes no memory.
     pub fn number(&self, from: u32, n: u32) -> u64
         requires few { n ≤ 64 }
         requires within { from + n ≤ length (unwrap_or self.now []) }

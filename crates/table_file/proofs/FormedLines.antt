@@ -1,5 +1,7 @@
 -- Blocks and files whose lines aren't at fault say well formed models.
-use Rattle.std.proofs.Common.{◌≡◌, ℕ, zero, suc, ◌+◌, ◌-◌, ◌^◌, ◌<◌, ◌≤◌, Bool, true, false, not, cond, nat_le, nat_lt, List, [], ◌∷◌, ◌++◌, length, map, Option, Some, None, All, get_or, refl, ap, sym, ◌∙◌, subst, arith, append_assoc}
+use Rattle.std.proofs.Common.{◌≡◌, ℕ, zero, suc, ◌+◌, ◌-◌, ◌^◌, ◌<◌, ◌≤◌, Bool, true, false, not, cond}
+use Rattle.std.proofs.Common.{nat_le, nat_lt, List, [], ◌∷◌, ◌++◌, length, map, Option, Some, None, All}
+use Rattle.std.proofs.Common.{get_or, refl, ap, sym, ◌∙◌, subst, arith, append_assoc}
 use Rattle.std.specs.Prelude.{◌==◌, ◌||◌, IfSome, IfOk, is_some, unwrap_or, Result, Ok, Err}
 use Rattle.std.proofs.lemmas.Bool.{ltb-false, not-false}
 use Rattle.std.proofs.lemmas.List.{length-map, length_push, append-nil, map_push}
@@ -15,16 +17,27 @@ use Rattle.instruments.specs.declared.model.Operand.TheVariants.{Word as AWord, 
 use Rattle.instruments.specs.declared.model.Slot.{Slot}
 use Rattle.instruments.specs.declared.model.Slot.TheVariants.{Word as TheWord, Entry as TheEntry}
 use Rattle.instruments.specs.declared.model.Amount.{Amount}
-use Rattle.instruments.specs.declared.model.Amount.TheVariants.{Number as ANumber, Copy as ACopy, Plus as APlus, Minus as AMinus, Entry as AnEntry}
+use Rattle.instruments.specs.declared.model.Amount.TheVariants.{Number as ANumber, Copy as ACopy}
+use Rattle.instruments.specs.declared.model.Amount.TheVariants.{Plus as APlus, Minus as AMinus}
+use Rattle.instruments.specs.declared.model.Amount.TheVariants.{Entry as AnEntry}
 use Rattle.instruments.specs.declared.model.Set.{Set}
 use Rattle.instruments.specs.Seen.{SeenWord, SeenMemory, SeenPort, SeenOut, SeenRow, SeenModel, seen_model}
 use Rattle.instruments.specs.After.{memory_width, width_of}
-use Rattle.instruments.specs.Models.{IsWidth, IsBelow, IsWord, IsOut, IsOperand, IsCond, IsSource, IsIndex, IsAmount, IsSlot, IsSet, IsRow, IsRunRow, IsModel, memory_names, names, word_width, operand_width}
-use Rattle.table_lines.specs.Said.{SaidLine, Input, Word, Memory, Output, Change, Run, End, Starts, SaidRow, line, instrument, version}
+use Rattle.instruments.specs.Models.{IsWidth, IsBelow, IsWord, IsOut, IsOperand, IsCond, IsSource, IsIndex}
+use Rattle.instruments.specs.Models.{IsAmount, IsSlot, IsSet, IsRow, IsRunRow, IsModel, memory_names, names}
+use Rattle.instruments.specs.Models.{word_width, operand_width}
+use Rattle.table_lines.specs.Said.{SaidLine, Input, Word, Memory, Output, Change, Run, End, Starts, SaidRow}
+use Rattle.table_lines.specs.Said.{line, instrument, version}
 use Rattle.table_file.specs.declared.fault.TableFault.{TableFault}
 use Rattle.table_file.specs.declared.table.Table.{Table}
-use Rattle.table_file.specs.declared.fault.TableFault.TheVariants.{TableSyntax, TableName, TableWidth, TableLimit, TableTwice}
-use Rattle.table_file.specs.Tables.{SeenTable, seen_table, Block, Tables, stands_in, word_named, is_above, reset_above, starts_above, bounds_outside, no_width, name_fault, width_fault, limit_fault, with_line, out_said, row_said, rank, empty, after_line, line_said, block_line, table_of, has_table, new_block, no_tables, is_end, put_block, next_line, at_end, and_then, read_lines, after_head, from_head, tables}
+use Rattle.table_file.specs.declared.fault.TableFault.TheVariants.{TableSyntax, TableName, TableWidth}
+use Rattle.table_file.specs.declared.fault.TableFault.TheVariants.{TableLimit, TableTwice}
+use Rattle.table_file.specs.Tables.{SeenTable, seen_table, Block, Tables, stands_in, word_named, is_above}
+use Rattle.table_file.specs.Tables.{reset_above, starts_above, bounds_outside, no_width, name_fault}
+use Rattle.table_file.specs.Tables.{width_fault, limit_fault, with_line, out_said, row_said, rank, empty}
+use Rattle.table_file.specs.Tables.{after_line, line_said, block_line, table_of, has_table, new_block}
+use Rattle.table_file.specs.Tables.{no_tables, is_end, put_block, next_line, at_end, and_then, read_lines}
+use Rattle.table_file.specs.Tables.{after_head, from_head, tables}
 use Rattle.table_file.specs.Answers.{GivesTable, seen_tables}
 use Rattle.table_file.specs.Formed.{TablesAreModels}
 use Rattle.table_file.proofs.Naming.{one_more_name, there}
@@ -54,10 +67,15 @@ module _ (m n : SeenModel) (w : m.words ≡ n.words) (e : m.memory ≡ n.memory)
   }
 
   source_as : (width : ℕ) (o : Operand) → IsSource m width o → IsSource n width o
-  source_as width o h = record { there = operand_as o h.there; present = h.present; as_wide = sym (operand_width_as o) ∙ h.as_wide }
+  source_as width o h = record {
+    there = operand_as o h.there;
+    present = h.present;
+    as_wide = sym (operand_width_as o) ∙ h.as_wide;
+  }
 
   index_as : (o : Operand) → IsIndex m o → IsIndex n o
-  index_as o h = record { there = operand_as o h.there; present = h.present; memory = λ none. h.memory (e ∙ none) }
+  index_as o h =
+      record { there = operand_as o h.there; present = h.present; memory = λ none. h.memory (e ∙ none) }
 
   slot_as : (s : Slot) → IsSlot m s → IsSlot n s
   slot_as (TheWord k) h = omega (arith, h, ap length w)
@@ -77,7 +95,8 @@ module _ (m n : SeenModel) (w : m.words ≡ n.words) (e : m.memory ≡ n.memory)
   set_as : (x : Set) → IsSet m x → IsSet n x
   set_as x h = record {
     slot = slot_as x.slot h.slot;
-    amount = amount_as (width_of n x.slot) x.amount (subst (λ width. IsAmount m width x.amount) (width_as x.slot) h.amount);
+    amount = amount_as (width_of n x.slot) x.amount
+        (subst (λ width. IsAmount m width x.amount) (width_as x.slot) h.amount);
     no_copy = h.no_copy;
   }
 
@@ -95,7 +114,11 @@ module _ (m n : SeenModel) (w : m.words ≡ n.words) (e : m.memory ≡ n.memory)
   outs_as : (os : List SeenOut) → All (IsOut m) os → All (IsOut n) os
   outs_as os h =
       All-weaker (IsOut m) (IsOut n)
-      (λ o k. record { within = subst (λ (l : List SeenWord). o.left < get_or (map (λ d. d.width) l) o.word 0) w k.within; order = k.order }) os h
+      (λ o k. record {
+        within = subst (λ (l : List SeenWord). o.left
+            < get_or (map (λ d. d.width) l) o.word 0) w k.within;
+        order = k.order;
+      }) os h
 
 none_of : {A : Type 0} (P : A → Type 0) (xs : List A) → xs ≡ [] → All P xs
 none_of P xs none = subst (All P) (sym none) (All-nil P)
@@ -112,9 +135,12 @@ a_width width h = record {
     positive zero h = absurd cc
     positive (suc n) h = omega arith
 
-starts_below : (width : ℕ) (s : Starts) → starts_above width s ≡ false → IsBelow width s.init × IfSome s.reset (IsBelow width)
-starts_below width s h =
-    (less (2 ^ width) s.init (or_left_false (is_above width s.init) (reset_above width s.reset) h), reset s.reset (or_right_false (is_above width s.init) (reset_above width s.reset) h))
+starts_below : (width : ℕ) (s : Starts) → starts_above width s ≡ false
+    → IsBelow width s.init × IfSome s.reset (IsBelow width)
+starts_below width s h = (
+  less (2 ^ width) s.init (or_left_false (is_above width s.init) (reset_above width s.reset) h),
+  reset s.reset (or_right_false (is_above width s.init) (reset_above width s.reset) h),
+)
   where
     reset : (o : Option ℕ) → reset_above width o ≡ false → IfSome o (IsBelow width)
     reset None h = tt
@@ -136,7 +162,8 @@ record IsFree (b : Block) (l : SaidLine) : Type 0 where
   width : width_fault b.model l ≡ false
   limit : limit_fault b.model l ≡ false
 
-with_input : (b : Block) (name : List ℕ) (width : ℕ) → IsFormed b → IsFree b (Input name width) → IsModel (with_line b.model (Input name width))
+with_input : (b : Block) (name : List ℕ) (width : ℕ) → IsFormed b → IsFree b (Input name width)
+    → IsModel (with_line b.model (Input name width))
 with_input b name width h f =
     let m = b.model in
     let port : SeenPort = record { name = name; width = width } in
@@ -144,15 +171,22 @@ with_input b name width h f =
     let first : b.rank ≤ 0 = ltb-false 0 b.rank f.order in
     let others = map (λ d. d.name) m.words ++ memory_names m.memory in
     let put = one_more_name (map (λ d. d.name) m.ins) others name h.model.names f.name in
-    let same : names new ≡ map (λ d. d.name) m.ins ++ name ∷ others = ap (λ l. l ++ others) (map_push (λ (d : SeenPort). d.name) m.ins port) ∙ append_assoc (map (λ d. d.name) m.ins) (name ∷ []) others in
+    let same : names new ≡ map (λ d. d.name) m.ins ++ name ∷ others =
+    ap (λ l. l ++ others) (map_push (λ (d : SeenPort). d.name) m.ins port)
+    ∙ append_assoc (map (λ d. d.name) m.ins) (name ∷ []) others in
     record {
       few_words = h.model.few_words;
-      few_ins = omega (arith, length_push m.ins port, less 16 (length m.ins) (or_right_false (no_width width) (nat_le 16 (length m.ins)) f.limit));
+      few_ins = omega (
+        arith,
+        length_push m.ins port,
+        less 16 (length m.ins) (or_right_false (no_width width) (nat_le 16 (length m.ins)) f.limit),
+      );
       few_outs = h.model.few_outs;
       few_rows = h.model.few_rows;
       words = h.model.words;
       memory = h.model.memory;
-      ins = All-push (λ d. IsWidth d.width) m.ins port h.model.ins (a_width width (or_left_false (no_width width) (nat_le 16 (length m.ins)) f.limit));
+      ins = All-push (λ d. IsWidth d.width) m.ins port h.model.ins
+          (a_width width (or_left_false (no_width width) (nat_le 16 (length m.ins)) f.limit));
       outs = none_of (IsOut new) m.outs (h.outs (omega (arith, first)));
       change = none_of (IsRow new) m.change (h.change (omega (arith, first)));
       run = none_of (IsRow new) m.run (h.run (omega (arith, first)));
@@ -161,7 +195,8 @@ with_input b name width h f =
       out_names = h.model.out_names;
     }
 
-with_word : (b : Block) (name : List ℕ) (width : ℕ) (s : Starts) → IsFormed b → IsFree b (Word name width s) → IsModel (with_line b.model (Word name width s))
+with_word : (b : Block) (name : List ℕ) (width : ℕ) (s : Starts) → IsFormed b → IsFree b (Word name width s)
+    → IsModel (with_line b.model (Word name width s))
 with_word b name width s h f =
     let m = b.model in
     let word : SeenWord = record { name = name; width = width; init = s.init; reset = s.reset } in
@@ -171,17 +206,28 @@ with_word b name width s h f =
     let words = map (λ d. d.name) m.words in
     let memory = memory_names m.memory in
     let old : names m ≡ (ins ++ words) ++ memory = sym (append_assoc ins words memory) in
-    let put = one_more_name (ins ++ words) memory name (subst AreDifferent old h.model.names) (ap (stands_in name) (sym old) ∙ f.name) in
+    let put = one_more_name (ins ++ words) memory name (subst AreDifferent old h.model.names)
+    (ap (stands_in name) (sym old) ∙ f.name) in
     let same : names new ≡ (ins ++ words) ++ name ∷ memory =
-    ap (λ l. ins ++ (l ++ memory)) (map_push (λ (d : SeenWord). d.name) m.words word) ∙ ap (λ l. ins ++ l) (append_assoc words (name ∷ []) memory) ∙ sym (append_assoc ins words (name ∷ memory)) in
+    ap (λ l. ins ++ (l ++ memory)) (map_push (λ (d : SeenWord). d.name) m.words word) ∙ ap (λ l. ins ++ l)
+    (append_assoc words (name ∷ []) memory) ∙ sym (append_assoc ins words (name ∷ memory)) in
     let below = starts_below width s f.width in
     record {
-      few_words = omega (arith, length_push m.words word, less 8 (length m.words) (or_right_false (no_width width) (nat_le 8 (length m.words)) f.limit));
+      few_words = omega (
+        arith,
+        length_push m.words word,
+        less 8 (length m.words) (or_right_false (no_width width) (nat_le 8 (length m.words)) f.limit),
+      );
       few_ins = h.model.few_ins;
       few_outs = h.model.few_outs;
       few_rows = h.model.few_rows;
       words = All-push IsWord m.words word h.model.words
-          (record { width = a_width width (or_left_false (no_width width) (nat_le 8 (length m.words)) f.limit); init = below.0; reset = below.1 });
+          (record {
+            width = a_width width (or_left_false (no_width width)
+                (nat_le 8 (length m.words)) f.limit);
+            init = below.0;
+            reset = below.1;
+          });
       memory = h.model.memory;
       ins = h.model.ins;
       outs = none_of (IsOut new) m.outs (h.outs (omega (arith, early)));
@@ -196,18 +242,22 @@ no_memory : (d : Option SeenMemory) → is_some d ≡ false → memory_names d �
 no_memory None h = refl
 no_memory (Some d) h = absurd cc
 
-with_memory : (b : Block) (name : List ℕ) (depth width : ℕ) (s : Starts) → IsFormed b → IsFree b (Memory name depth width s) → IsModel (with_line b.model (Memory name depth width s))
+with_memory : (b : Block) (name : List ℕ) (depth width : ℕ) (s : Starts) → IsFormed b
+    → IsFree b (Memory name depth width s) → IsModel (with_line b.model (Memory name depth width s))
 with_memory b name depth width s h f =
     let m = b.model in
     let new = with_line m (Memory name depth width s) in
     let early : b.rank ≤ 2 = ltb-false 2 b.rank f.order in
     let ins = map (λ d. d.name) m.ins in
     let words = map (λ d. d.name) m.words in
-    let deep = or_right_false (no_width width) (depth == 0 || (nat_lt 256 depth || is_some m.memory)) f.limit in
+    let deep = or_right_false (no_width width)
+    (depth == 0 || (nat_lt 256 depth || is_some m.memory)) f.limit in
     let bounded = or_right_false (depth == 0) (nat_lt 256 depth || is_some m.memory) deep in
     let none = no_memory m.memory (or_right_false (nat_lt 256 depth) (is_some m.memory) bounded) in
-    let old : names m ≡ (ins ++ words) ++ [] = ap (λ l. ins ++ (words ++ l)) none ∙ sym (append_assoc ins words []) in
-    let put = one_more_name (ins ++ words) [] name (subst AreDifferent old h.model.names) (ap (stands_in name) (sym old) ∙ f.name) in
+    let old : names m ≡ (ins ++ words) ++ [] =
+    ap (λ l. ins ++ (words ++ l)) none ∙ sym (append_assoc ins words []) in
+    let put = one_more_name (ins ++ words) [] name (subst AreDifferent old h.model.names)
+    (ap (stands_in name) (sym old) ∙ f.name) in
     let same : names new ≡ (ins ++ words) ++ name ∷ [] = sym (append_assoc ins words (name ∷ [])) in
     let below = starts_below width s f.width in
     record {
@@ -219,7 +269,8 @@ with_memory b name depth width s h f =
       memory = record {
         some = positive depth (or_left_false (depth == 0) (nat_lt 256 depth || is_some m.memory) deep);
         few = ltb-false 256 depth (or_left_false (nat_lt 256 depth) (is_some m.memory) bounded);
-        width = a_width width (or_left_false (no_width width) (depth == 0 || (nat_lt 256 depth || is_some m.memory)) f.limit);
+        width = a_width width
+            (or_left_false (no_width width) (depth == 0 || (nat_lt 256 depth || is_some m.memory)) f.limit);
         init = below.0;
         reset = below.1;
       };
@@ -237,44 +288,60 @@ with_memory b name depth width s h f =
     positive (suc n) h = omega arith
 
 -- a word that is there has bits
-at_least_one_bit : (m : SeenModel) (name : List ℕ) → All IsWord m.words → is_some (word_named m name) ≡ true → 1 ≤ word_width m (unwrap_or (word_named m name) 0)
+at_least_one_bit : (m : SeenModel) (name : List ℕ) → All IsWord m.words → is_some (word_named m name) ≡ true
+    → 1 ≤ word_width m (unwrap_or (word_named m name) 0)
 at_least_one_bit m name each h =
     let within = (there name (map (λ d. d.name) m.words) h).within in
-    at_number m.words (unwrap_or (word_named m name) 0) each (omega (arith, within, length-map m.words (λ d. d.name)))
+    at_number m.words (unwrap_or (word_named m name) 0) each
+    (omega (arith, within, length-map m.words (λ d. d.name)))
   where
-    at_number : (ws : List SeenWord) (k : ℕ) → All IsWord ws → k < length ws → 1 ≤ get_or (map (λ d. d.width) ws) k 0
+    at_number : (ws : List SeenWord) (k : ℕ) → All IsWord ws → k < length ws
+        → 1 ≤ get_or (map (λ d. d.width) ws) k 0
     at_number [] k each lt = absurd (omega (arith, lt))
     at_number (d ∷ ds) zero each lt = (each zero d (omega arith)).width.some
-    at_number (d ∷ ds) (suc k) each lt = at_number ds k (λ i e within. each (suc i) e (omega (arith, within))) (omega (arith, lt))
+    at_number (d ∷ ds) (suc k) each lt =
+        at_number ds k (λ i e within. each (suc i) e (omega (arith, within))) (omega (arith, lt))
 
-new_out : (m n : SeenModel) (name word : List ℕ) (bounds : Option (ℕ × ℕ)) → m.words ≡ n.words → 1 ≤ word_width m (unwrap_or (word_named m word) 0)
-    → bounds_outside (word_width m (unwrap_or (word_named m word) 0)) bounds ≡ false → IsOut n (out_said m name word bounds)
+new_out : (m n : SeenModel) (name word : List ℕ) (bounds : Option (ℕ × ℕ)) → m.words ≡ n.words
+    → 1 ≤ word_width m (unwrap_or (word_named m word) 0)
+    → bounds_outside (word_width m (unwrap_or (word_named m word) 0)) bounds ≡ false
+    → IsOut n (out_said m name word bounds)
 new_out m n name word None same some h =
     let k = unwrap_or (word_named m word) 0 in
-    let width : word_width m k ≡ word_width n k = ap (λ (l : List SeenWord). get_or (map (λ d. d.width) l) k 0) same in
+    let width : word_width m k ≡ word_width n k =
+    ap (λ (l : List SeenWord). get_or (map (λ d. d.width) l) k 0) same in
     record { within = omega (arith, some, width); order = omega arith }
 new_out m n name word (Some b) same some h =
     let k = unwrap_or (word_named m word) 0 in
-    let width : word_width m k ≡ word_width n k = ap (λ (l : List SeenWord). get_or (map (λ d. d.width) l) k 0) same in
+    let width : word_width m k ≡ word_width n k =
+    ap (λ (l : List SeenWord). get_or (map (λ d. d.width) l) k 0) same in
     let left = less (word_width m k) b.0 (or_left_false (nat_le (word_width m k) b.0) (nat_lt b.0 b.1) h) in
-    record { within = omega (arith, left, width); order = ltb-false b.0 b.1 (or_right_false (nat_le (word_width m k) b.0) (nat_lt b.0 b.1) h) }
+    record {
+      within = omega (arith, left, width);
+      order = ltb-false b.0 b.1 (or_right_false (nat_le (word_width m k) b.0) (nat_lt b.0 b.1) h);
+    }
 
-out_name : (m : SeenModel) (name word : List ℕ) (bounds : Option (ℕ × ℕ)) → (out_said m name word bounds).name ≡ name
+out_name : (m : SeenModel) (name word : List ℕ) (bounds : Option (ℕ × ℕ))
+    → (out_said m name word bounds).name ≡ name
 out_name m name word None = refl
 out_name m name word (Some b) = refl
 
-with_output : (b : Block) (name : List ℕ) (s : Slice) → IsFormed b → IsFree b (Output name s) → IsModel (with_line b.model (Output name s))
+with_output : (b : Block) (name : List ℕ) (s : Slice) → IsFormed b → IsFree b (Output name s)
+    → IsModel (with_line b.model (Output name s))
 with_output b name s h f =
     let m = b.model in
     let out = out_said m name s.word s.bounds in
     let new = with_line m (Output name s) in
     let early : b.rank ≤ 3 = ltb-false 3 b.rank f.order in
     let taken = map (λ d. d.name) m.outs in
-    let known = not-false (is_some (word_named m s.word)) (or_right_false (stands_in name taken) (not (is_some (word_named m s.word))) f.name) in
+    let known = not-false (is_some (word_named m s.word))
+    (or_right_false (stands_in name taken) (not (is_some (word_named m s.word))) f.name) in
     let fresh = or_left_false (stands_in name taken) (not (is_some (word_named m s.word))) f.name in
     let nothing = append-nil taken in
-    let put = one_more_name taken [] name (subst AreDifferent (sym nothing) h.model.out_names) (ap (stands_in name) nothing ∙ fresh) in
-    let same : map (λ d. d.name) new.outs ≡ taken ++ name ∷ [] = map_push (λ (d : SeenOut). d.name) m.outs out ∙ ap (λ (l : List ℕ). taken ++ l ∷ []) (out_name m name s.word s.bounds) in
+    let put = one_more_name taken [] name (subst AreDifferent (sym nothing) h.model.out_names)
+    (ap (stands_in name) nothing ∙ fresh) in
+    let same : map (λ d. d.name) new.outs ≡ taken ++ name ∷ [] = map_push (λ (d : SeenOut). d.name) m.outs out
+    ∙ ap (λ (l : List ℕ). taken ++ l ∷ []) (out_name m name s.word s.bounds) in
     record {
       few_words = h.model.few_words;
       few_ins = h.model.few_ins;
@@ -292,7 +359,8 @@ with_output b name s h f =
       out_names = subst AreDifferent (sym same) put;
     }
 
-with_change : (b : Block) (r : SaidRow) → IsSaidLine (Change r) → IsFormed b → IsFree b (Change r) → IsModel (with_line b.model (Change r))
+with_change : (b : Block) (r : SaidRow) → IsSaidLine (Change r) → IsFormed b → IsFree b (Change r)
+    → IsModel (with_line b.model (Change r))
 with_change b r said h f =
     let m = b.model in
     let row = row_said m r in
@@ -306,14 +374,16 @@ with_change b r said h f =
       memory = h.model.memory;
       ins = h.model.ins;
       outs = outs_as m new refl refl refl m.outs h.model.outs;
-      change = All-push (IsRow new) m.change row (rows_as m new refl refl refl m.change h.model.change) (row_as m new refl refl refl row (formed_row m true r said f.name f.width));
+      change = All-push (IsRow new) m.change row (rows_as m new refl refl refl m.change h.model.change)
+          (row_as m new refl refl refl row (formed_row m true r said f.name f.width));
       run = rows_as m new refl refl refl m.run h.model.run;
       runs = h.model.runs;
       names = h.model.names;
       out_names = h.model.out_names;
     }
 
-with_run : (b : Block) (r : SaidRow) → IsSaidLine (Run r) → IsFormed b → IsFree b (Run r) → IsModel (with_line b.model (Run r))
+with_run : (b : Block) (r : SaidRow) → IsSaidLine (Run r) → IsFormed b
+    → IsFree b (Run r) → IsModel (with_line b.model (Run r))
 with_run b r said h f =
     let m = b.model in
     let row = row_said m r in
@@ -328,13 +398,15 @@ with_run b r said h f =
       ins = h.model.ins;
       outs = outs_as m new refl refl refl m.outs h.model.outs;
       change = rows_as m new refl refl refl m.change h.model.change;
-      run = All-push (IsRow new) m.run row (rows_as m new refl refl refl m.run h.model.run) (row_as m new refl refl refl row (formed_row m false r said f.name f.width));
+      run = All-push (IsRow new) m.run row (rows_as m new refl refl refl m.run h.model.run)
+          (row_as m new refl refl refl row (formed_row m false r said f.name f.width));
       runs = All-push IsRunRow m.run row h.model.runs (formed_run m r said);
       names = h.model.names;
       out_names = h.model.out_names;
     }
 
-formed_after : (b : Block) (l : SaidLine) → IsSaidLine l → IsFormed b → IsFree b l → IsFormed (record b { rank = rank l; model = with_line b.model l })
+formed_after : (b : Block) (l : SaidLine) → IsSaidLine l → IsFormed b → IsFree b l
+    → IsFormed (record b { rank = rank l; model = with_line b.model l })
 formed_after b (Input name width) said h f =
     let first : b.rank ≤ 0 = ltb-false 0 b.rank f.order in
     record {
@@ -392,11 +464,13 @@ formed_after b End said h f =
 
 -- ---- lines
 
-unless_fault : {A : Type 0} (P : A → Type 0) (b : Bool) (fault : TableFault) (r : Result A TableFault) → (b ≡ false → IfOk r P) → IfOk (cond b (Err fault) r) P
+unless_fault : {A : Type 0} (P : A → Type 0) (b : Bool) (fault : TableFault) (r : Result A TableFault)
+    → (b ≡ false → IfOk r P) → IfOk (cond b (Err fault) r) P
 unless_fault P true fault r h = tt
 unless_fault P false fault r h = h refl
 
-one_line : (at : Place) (b : Block) (l : SaidLine) → IsSaidLine l → IsFormed b → IfOk (after_line at b l) IsFormed
+one_line : (at : Place) (b : Block) (l : SaidLine) → IsSaidLine l
+    → IsFormed b → IfOk (after_line at b l) IsFormed
 one_line at b l said h =
     unless_fault IsFormed (nat_lt (rank l) b.rank) (TableSyntax at) _ (λ order.
     unless_fault IsFormed (name_fault b.model l) (TableName at) _ (λ name.
@@ -404,7 +478,8 @@ one_line at b l said h =
     unless_fault IsFormed (limit_fault b.model l) (TableLimit at) _ (λ limit.
     formed_after b l said h (record { order = order; name = name; width = width; limit = limit })))))
 
-one_said : (at : Place) (b : Block) (o : Option SaidLine) → IfSome o IsSaidLine → IsFormed b → IfOk (line_said at b o) IsFormed
+one_said : (at : Place) (b : Block) (o : Option SaidLine) → IfSome o IsSaidLine
+    → IsFormed b → IfOk (line_said at b o) IsFormed
 one_said at b None said h = tt
 one_said at b (Some l) said h = one_line at b l said h
 
@@ -425,10 +500,12 @@ nothing_said = record {
   out_names = tt;
 }
 
-first_line : (at : Place) (ts : List SeenTable) (o : Option (List (List ℕ))) → IfOk (new_block at ts o) IsFormed
+first_line : (at : Place) (ts : List SeenTable) (o : Option (List (List ℕ)))
+    → IfOk (new_block at ts o) IsFormed
 first_line at ts None = tt
 first_line at ts (Some path) =
-    unless_fault IsFormed (has_table path ts) (TableTwice at) (Ok (record { path = path; at = at; rank = 0; model = empty }))
+    unless_fault IsFormed (has_table path ts) (TableTwice at)
+    (Ok (record { path = path; at = at; rank = 0; model = empty }))
     (λ fresh. record { model = nothing_said; outs = λ k. refl; change = λ k. refl; run = λ k. refl })
 
 -- ---- files
@@ -437,37 +514,50 @@ record AreFormed (t : Tables) : Type 0 where
   tables : All (λ t. IsModel t.model) t.tables
   block : IfSome t.block IsFormed
 
-pub in_both : {A : Type 0} (P : A → Type 0) (b : Bool) (x y : Result A TableFault) → IfOk x P → IfOk y P → IfOk (cond b x y) P
+pub in_both : {A : Type 0} (P : A → Type 0) (b : Bool) (x y : Result A TableFault)
+    → IfOk x P → IfOk y P → IfOk (cond b x y) P
 in_both P true x y hx hy = hx
 in_both P false x y hx hy = hy
 
-block_put : (ts : List SeenTable) (r : Result Block TableFault) → All (λ t. IsModel t.model) ts → IfOk r IsFormed → IfOk (put_block ts r) AreFormed
+block_put : (ts : List SeenTable) (r : Result Block TableFault) → All (λ t. IsModel t.model) ts
+    → IfOk r IsFormed → IfOk (put_block ts r) AreFormed
 block_put ts (Err fault) all h = tt
 block_put ts (Ok b) all h =
-    in_both AreFormed (is_end b.rank) (Ok (record { tables = ts ++ table_of b ∷ []; block = None })) (Ok (record { tables = ts; block = Some b }))
-    (record { tables = All-push (λ t. IsModel t.model) ts (table_of b) all h.model; block = tt }) (record { tables = all; block = h })
+    in_both AreFormed (is_end b.rank) (Ok (record { tables = ts ++ table_of b ∷ []; block = None }))
+    (Ok (record { tables = ts; block = Some b }))
+    (record { tables = All-push (λ t. IsModel t.model) ts (table_of b) all h.model; block = tt })
+    (record { tables = all; block = h })
 
-line_after : (second : Bool) (ts : List SeenTable) (b : Option Block) (l : Line) → All (λ t. IsModel t.model) ts → IfSome b IsFormed → IfOk (next_line second ts b l) AreFormed
-line_after second ts None l all h = block_put ts (new_block l.at ts (instrument l.words)) all (first_line l.at ts (instrument l.words))
-line_after second ts (Some b) l all h = block_put ts (block_line second b l) all (one_said l.at b (line second l.words) (said_line second l.words) h)
+line_after : (second : Bool) (ts : List SeenTable) (b : Option Block) (l : Line)
+    → All (λ t. IsModel t.model) ts → IfSome b IsFormed → IfOk (next_line second ts b l) AreFormed
+line_after second ts None l all h =
+    block_put ts (new_block l.at ts (instrument l.words)) all (first_line l.at ts (instrument l.words))
+line_after second ts (Some b) l all h = block_put ts (block_line second b l) all
+    (one_said l.at b (line second l.words) (said_line second l.words) h)
 
-ended : (end : Place) (ts : List SeenTable) (b : Option Block) → All (λ t. IsModel t.model) ts → IfOk (at_end end ts b) (All (λ t. IsModel t.model))
+ended : (end : Place) (ts : List SeenTable) (b : Option Block) → All (λ t. IsModel t.model) ts
+    → IfOk (at_end end ts b) (All (λ t. IsModel t.model))
 ended end ts None all = all
 ended end ts (Some b) all = tt
 
-pub then : {A B : Type 0} (P : A → Type 0) (Q : B → Type 0) (r : Result A TableFault) (next : A → Result B TableFault) → IfOk r P → ((a : A) → P a → IfOk (next a) Q) → IfOk (and_then r next) Q
+pub then : {A B : Type 0} (P : A → Type 0) (Q : B → Type 0) (r : Result A TableFault) (next : A
+    → Result B TableFault) → IfOk r P → ((a : A) → P a → IfOk (next a) Q) → IfOk (and_then r next) Q
 then P Q (Ok a) next h k = k a h
 then P Q (Err fault) next h k = tt
 
-lines_formed : (second : Bool) (end : Place) (t : Tables) (ls : List Line) → AreFormed t → IfOk (read_lines second end t ls) (All (λ t. IsModel t.model))
+lines_formed : (second : Bool) (end : Place) (t : Tables) (ls : List Line) → AreFormed t
+    → IfOk (read_lines second end t ls) (All (λ t. IsModel t.model))
 lines_formed second end t [] h = ended end t.tables t.block h.tables
 lines_formed second end t (l ∷ ls) h =
-    then AreFormed (All (λ t. IsModel t.model)) (next_line second t.tables t.block l) (λ u. read_lines second end u ls) (line_after second t.tables t.block l h.tables h.block)
+    then AreFormed (All (λ t. IsModel t.model)) (next_line second t.tables t.block l)
+    (λ u. read_lines second end u ls) (line_after second t.tables t.block l h.tables h.block)
     (λ u k. lines_formed second end u ls k)
 
-head_formed : (end at : Place) (o : Option Bool) (ls : List Line) → IfOk (after_head end at o ls) (All (λ t. IsModel t.model))
+head_formed : (end at : Place) (o : Option Bool) (ls : List Line)
+    → IfOk (after_head end at o ls) (All (λ t. IsModel t.model))
 head_formed end at None ls = tt
-head_formed end at (Some second) ls = lines_formed second end no_tables ls (record { tables = All-nil (λ t. IsModel t.model); block = tt })
+head_formed end at (Some second) ls =
+    lines_formed second end no_tables ls (record { tables = All-nil (λ t. IsModel t.model); block = tt })
 
 file_formed : (end : Place) (ls : List Line) → IfOk (from_head end ls) (All (λ t. IsModel t.model))
 file_formed end [] = tt
@@ -479,13 +569,17 @@ tables_formed text = file_formed (end_of text) (lines_of text)
 
 -- ---- what is read
 
-unseen : (ts : List Table) → All (λ t. IsModel t.model) (map seen_table ts) → All (λ t. IsModel (seen_model t.model)) ts
+unseen : (ts : List Table) → All (λ t. IsModel t.model) (map seen_table ts)
+    → All (λ t. IsModel (seen_model t.model)) ts
 unseen [] h = All-nil (λ t. IsModel (seen_model t.model))
 unseen (t ∷ ts) h =
-    All-cons (λ t. IsModel (seen_model t.model)) t ts (All-head (λ t. IsModel t.model) (seen_table t) (map seen_table ts) h)
+    All-cons (λ t. IsModel (seen_model t.model)) t ts
+    (All-head (λ t. IsModel t.model) (seen_table t) (map seen_table ts) h)
     (unseen ts (All-tail (λ t. IsModel t.model) (seen_table t) (map seen_table ts) h))
 
-pub models_formed : (r : Result (Listed Table) TableFault) (said : Result (List SeenTable) TableFault) → GivesTable seen_tables r said → IfOk said (All (λ t. IsModel t.model))
+pub models_formed : (r : Result (Listed Table) TableFault) (said : Result (List SeenTable) TableFault)
+    → GivesTable seen_tables r said → IfOk said (All (λ t. IsModel t.model))
     → IfOk r (λ ts. All (λ t. IsModel (seen_model t.model)) ts.items)
 models_formed (Err fault) said gives h = tt
-models_formed (Ok ts) said gives h = unseen ts.items (subst (λ (s : Result (List SeenTable) TableFault). IfOk s (All (λ t. IsModel t.model))) gives h)
+models_formed (Ok ts) said gives h = unseen ts.items
+    (subst (λ (s : Result (List SeenTable) TableFault). IfOk s (All (λ t. IsModel t.model))) gives h)

@@ -8,12 +8,14 @@ use Rattle.instruments.specs.After.{memory_width}
 use Rattle.instruments.specs.Models.{operand_width, word_width}
 use Rattle.table_file.specs.Small.{AreNarrow}
 
-few_of_words : (ds : List SeenWord) (k : ℕ) → All (λ d. d.width ≤ 64) ds → get_or (map (λ d. d.width) ds) k 0 ≤ 64
+few_of_words : (ds : List SeenWord) (k : ℕ) → All (λ d. d.width ≤ 64) ds
+    → get_or (map (λ d. d.width) ds) k 0 ≤ 64
 few_of_words [] k all = omega arith
 few_of_words (d ∷ ds) zero all = all zero d (omega arith)
 few_of_words (d ∷ ds) (suc k) all = few_of_words ds k (λ i e within. all (suc i) e (omega (arith, within)))
 
-few_of_ports : (ds : List SeenPort) (k : ℕ) → All (λ d. d.width ≤ 64) ds → get_or (map (λ d. d.width) ds) k 0 ≤ 64
+few_of_ports : (ds : List SeenPort) (k : ℕ) → All (λ d. d.width ≤ 64) ds
+    → get_or (map (λ d. d.width) ds) k 0 ≤ 64
 few_of_ports [] k all = omega arith
 few_of_ports (d ∷ ds) zero all = all zero d (omega arith)
 few_of_ports (d ∷ ds) (suc k) all = few_of_ports ds k (λ i e within. all (suc i) e (omega (arith, within)))

@@ -7,7 +7,8 @@ use Rattle.std.specs.Option.{option_map}
 use Rattle.ij_text.specs.Parts.{split}
 use Rattle.instruments.specs.Seen.{seen_model}
 use Rattle.table_file.specs.declared.fault.TableFault.{TableFault}
-use Rattle.table_file.specs.declared.fault.TableFault.TheVariants.{TableSyntax, TableName, TableWidth, TableLimit, TableTwice, OutOfMemory}
+use Rattle.table_file.specs.declared.fault.TableFault.TheVariants.{TableSyntax, TableName, TableWidth}
+use Rattle.table_file.specs.declared.fault.TableFault.TheVariants.{TableLimit, TableTwice, OutOfMemory}
 use Rattle.table_file.specs.declared.blocks.Block.{Block as RustBlock}
 use Rattle.table_file.specs.declared.blocks.SoFar.{SoFar}
 use Rattle.table_file.specs.declared.table.Table.{Table}
@@ -29,7 +30,12 @@ GivesTable view (Ok a) said = said ≡ Ok (view a)
 GivesTable view (Err fault) said = TableFails fault said
 
 abbrev pub seen_block : RustBlock → Block
-seen_block b = record { path = map (λ name. name.items) b.path.items; at = b.at; rank = b.rank; model = seen_model b.model }
+seen_block b = record {
+  path = map (λ name. name.items) b.path.items;
+  at = b.at;
+  rank = b.rank;
+  model = seen_model b.model;
+}
 
 abbrev pub seen_so_far : SoFar → Tables
 seen_so_far s = record { tables = map seen_table s.tables.items; block = option_map seen_block s.block }
@@ -50,4 +56,5 @@ pub record IsSoFar (s : SoFar) : Type 0 where
 -- a block begins after tables with these paths, the texts of which are known
 abbrev pub GivesBlock : List (List ℕ) → Place → List (List ℕ) → Result RustBlock TableFault → Type 0
 GivesBlock paths at words result =
-    (ts : List SeenTable) → map (λ t. t.path) ts ≡ map (split 46) paths → GivesTable seen_block result (new_block at ts (instrument words))
+    (ts : List SeenTable) → map (λ t. t.path) ts ≡ map (split 46) paths
+    → GivesTable seen_block result (new_block at ts (instrument words))

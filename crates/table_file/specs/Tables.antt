@@ -1,6 +1,8 @@
--- The tables of a file: a first line `tables 1` or `tables 2`, and then blocks, each of which says what one instrument
--- does. A file has tables, or a first line at fault.
-use Rattle.std.specs.Prelude.{ℕ, ◌+◌, ◌-◌, ◌^◌, ◌==◌, nat_le, nat_lt, Bool, true, false, not, ◌&&◌, ◌||◌, cond, List, [], ◌∷◌, ◌++◌, length, map, Option, Some, None, unwrap_or, Result, Ok, Err}
+-- The tables of a file: a first line `tables 1` or `tables 2`, and then blocks, each of which says what one
+-- instrument does. A file has tables, or a first line at fault.
+use Rattle.std.specs.Prelude.{ℕ, ◌+◌, ◌-◌, ◌^◌, ◌==◌, nat_le, nat_lt, Bool, true, false, not, ◌&&◌, ◌||◌}
+use Rattle.std.specs.Prelude.{cond, List, [], ◌∷◌, ◌++◌, length, map, Option, Some, None, unwrap_or, Result}
+use Rattle.std.specs.Prelude.{Ok, Err}
 use Rattle.std.specs.Option.{is_some, option_map}
 use Rattle.std.specs.List.{list_any}
 use Rattle.std.specs.Str.{bytes_eq}
@@ -11,17 +13,22 @@ use Rattle.instruments.specs.declared.model.Cond.{Cond}
 use Rattle.instruments.specs.declared.model.Slot.{Slot}
 use Rattle.instruments.specs.declared.model.Slot.TheVariants.{Word as TheWord, Entry as TheEntry}
 use Rattle.instruments.specs.declared.model.Amount.{Amount}
-use Rattle.instruments.specs.declared.model.Amount.TheVariants.{Number as ANumber, Copy as ACopy, Plus as APlus, Minus as AMinus, Entry as AnEntry}
+use Rattle.instruments.specs.declared.model.Amount.TheVariants.{Number as ANumber, Copy as ACopy}
+use Rattle.instruments.specs.declared.model.Amount.TheVariants.{Plus as APlus, Minus as AMinus}
+use Rattle.instruments.specs.declared.model.Amount.TheVariants.{Entry as AnEntry}
 use Rattle.instruments.specs.declared.model.Set.{Set}
 use Rattle.instruments.specs.Seen.{SeenOut, SeenRow, SeenModel, seen_model}
 use Rattle.instruments.specs.After.{memory_width}
 use Rattle.instruments.specs.Models.{word_width, operand_width, memory_names, names}
 use Rattle.table_file.specs.declared.fault.TableFault.{TableFault}
-use Rattle.table_file.specs.declared.fault.TableFault.TheVariants.{TableSyntax, TableName, TableWidth, TableLimit, TableTwice}
+use Rattle.table_file.specs.declared.fault.TableFault.TheVariants.{TableSyntax, TableName, TableWidth}
+use Rattle.table_file.specs.declared.fault.TableFault.TheVariants.{TableLimit, TableTwice}
 use Rattle.table_file.specs.declared.table.Table.{Table}
 use Rattle.table_lines.specs.Lines.{Line, lines_of, end_of}
 use Rattle.table_lines.specs.Words.{is_wide, value_in, care_in}
-use Rattle.table_lines.specs.Said.{SaidCond, SaidEntry, SaidSlot, ToWord, ToEntry, SaidAmount, Number, Copy, Plus, Minus, FromEntry, SaidSet, SaidRow, Starts, SaidLine, Input, Word, Memory, Output, Change, Run, End, line, instrument, version}
+use Rattle.table_lines.specs.Said.{SaidCond, SaidEntry, SaidSlot, ToWord, ToEntry, SaidAmount, Number, Copy}
+use Rattle.table_lines.specs.Said.{Plus, Minus, FromEntry, SaidSet, SaidRow, Starts, SaidLine, Input, Word}
+use Rattle.table_lines.specs.Said.{Memory, Output, Change, Run, End, line, instrument, version}
 
 -- a table with plain names and lists
 pub record SeenTable : Type 0 where
@@ -88,7 +95,11 @@ cond_width m c = operand_width m (known (cond_operand m c))
 
 abbrev pub cond_said : SeenModel → SaidCond → Cond
 cond_said m c =
-    record { of = known (cond_operand m c); value = value_in (cond_width m c) c.number; care = care_in (cond_width m c) c.number }
+    record {
+      of = known (cond_operand m c);
+      value = value_in (cond_width m c) c.number;
+      care = care_in (cond_width m c) c.number;
+    }
 
 abbrev pub slot_said : SeenModel → SaidSlot → Slot
 slot_said m (ToWord name) = TheWord (unwrap_or (word_named m name) 0)
@@ -133,14 +144,16 @@ target (ToEntry e) = e.memory
 
 abbrev pub row_names : SeenModel → SaidRow → Bool
 row_names m row =
-    list_any (λ c. not (is_some (cond_operand m c))) row.conds || (list_any (λ x. no_slot m x.slot || no_amount m x.amount) row.sets || has_twice (map (λ x. target x.slot) row.sets))
+    list_any (λ c. not (is_some (cond_operand m c))) row.conds || (list_any (λ x. no_slot m x.slot ||
+    no_amount m x.amount) row.sets || has_twice (map (λ x. target x.slot) row.sets))
 
 -- inputs, words and the memory have names of their own, and so have outputs
 abbrev pub name_fault : SeenModel → SaidLine → Bool
 name_fault m (Input name width) = stands_in name (names m)
 name_fault m (Word name width s) = stands_in name (names m)
 name_fault m (Memory name depth width s) = stands_in name (names m)
-name_fault m (Output name s) = stands_in name (map (λ out. out.name) m.outs) || not (is_some (word_named m s.word))
+name_fault m (Output name s) =
+    stands_in name (map (λ out. out.name) m.outs) || not (is_some (word_named m s.word))
 name_fault m (Change row) = row_names m row
 name_fault m (Run row) = row_names m row
 name_fault m End = false
@@ -174,7 +187,8 @@ amount_width m width (FromEntry e) = not (memory_width m.memory == width)
 
 abbrev pub row_widths : SeenModel → SaidRow → Bool
 row_widths m row =
-    list_any (λ c. is_wide (cond_width m c) c.number) row.conds || list_any (λ x. amount_width m (slot_width m x.slot) x.amount) row.sets
+    list_any (λ c. is_wide (cond_width m c) c.number) row.conds || list_any
+    (λ x. amount_width m (slot_width m x.slot) x.amount) row.sets
 
 abbrev pub width_fault : SeenModel → SaidLine → Bool
 width_fault m (Input name width) = false
@@ -190,11 +204,13 @@ width_fault m End = false
 abbrev pub no_width : ℕ → Bool
 no_width width = width == 0 || nat_lt 64 width
 
--- 8 words, one memory of 1 to 256 entries, 16 inputs, 16 outputs, 64 rows of both kinds together, and widths of 1 to 64
+-- 8 words, one memory of 1 to 256 entries, 16 inputs, 16 outputs, 64 rows of both kinds together, and widths
+-- of 1 to 64
 abbrev pub limit_fault : SeenModel → SaidLine → Bool
 limit_fault m (Input name width) = no_width width || nat_le 16 (length m.ins)
 limit_fault m (Word name width s) = no_width width || nat_le 8 (length m.words)
-limit_fault m (Memory name depth width s) = no_width width || (depth == 0 || (nat_lt 256 depth || is_some m.memory))
+limit_fault m (Memory name depth width s) =
+    no_width width || (depth == 0 || (nat_lt 256 depth || is_some m.memory))
 limit_fault m (Output name s) = nat_le 16 (length m.outs)
 limit_fault m (Change row) = nat_le 64 (length m.change + length m.run)
 limit_fault m (Run row) = nat_le 64 (length m.change + length m.run)
@@ -205,8 +221,14 @@ limit_fault m End = false
 -- a whole word without bounds
 abbrev pub out_said : SeenModel → List ℕ → List ℕ → Option (ℕ × ℕ) → SeenOut
 out_said m name word None =
-    record { name = name; word = unwrap_or (word_named m word) 0; left = word_width m (unwrap_or (word_named m word) 0) - 1; right = 0 }
-out_said m name word (Some b) = record { name = name; word = unwrap_or (word_named m word) 0; left = b.0; right = b.1 }
+    record {
+      name = name;
+      word = unwrap_or (word_named m word) 0;
+      left = word_width m (unwrap_or (word_named m word) 0) - 1;
+      right = 0;
+    }
+out_said m name word (Some b) =
+    record { name = name; word = unwrap_or (word_named m word) 0; left = b.0; right = b.1 }
 
 -- the model with one more line
 abbrev pub with_line : SeenModel → SaidLine → SeenModel
@@ -214,7 +236,10 @@ with_line m (Input name width) = record m { ins = m.ins ++ record { name = name;
 with_line m (Word name width s) =
     record m { words = m.words ++ record { name = name; width = width; init = s.init; reset = s.reset } ∷ [] }
 with_line m (Memory name depth width s) =
-    record m { memory = Some (record { name = name; depth = depth; width = width; init = s.init; reset = s.reset }) }
+    record m {
+      memory =
+          Some (record { name = name; depth = depth; width = width; init = s.init; reset = s.reset });
+    }
 with_line m (Output name s) = record m { outs = m.outs ++ out_said m name s.word s.bounds ∷ [] }
 with_line m (Change row) = record m { change = m.change ++ row_said m row ∷ [] }
 with_line m (Run row) = record m { run = m.run ++ row_said m row ∷ [] }
@@ -274,7 +299,8 @@ has_table path tables = list_any (λ t. same_path path t.path) tables
 abbrev pub new_block : Place → List SeenTable → Option (List (List ℕ)) → Result Block TableFault
 new_block at tables None = Err (TableSyntax at)
 new_block at tables (Some path) =
-    cond (has_table path tables) (Err (TableTwice at)) (Ok (record { path = path; at = at; rank = 0; model = empty }))
+    cond (has_table path tables) (Err (TableTwice at))
+    (Ok (record { path = path; at = at; rank = 0; model = empty }))
 
 -- what stands after some lines: whole tables, and a block that isn't ended
 pub record Tables : Type 0 where
@@ -291,7 +317,8 @@ is_end rank = rank == 6
 abbrev pub put_block : List SeenTable → Result Block TableFault → Result Tables TableFault
 put_block tables (Err fault) = Err fault
 put_block tables (Ok b) =
-    cond (is_end b.rank) (Ok (record { tables = tables ++ table_of b ∷ []; block = None })) (Ok (record { tables = tables; block = Some b }))
+    cond (is_end b.rank) (Ok (record { tables = tables ++ table_of b ∷ []; block = None }))
+    (Ok (record { tables = tables; block = Some b }))
 
 -- one more line
 abbrev pub next_line : Bool → List SeenTable → Option Block → Line → Result Tables TableFault
@@ -310,7 +337,8 @@ and_then (Err fault) next = Err fault
 -- the rest of a file after some lines
 abbrev pub read_lines : Bool → Place → Tables → List Line → Result (List SeenTable) TableFault
 read_lines second end t [] = at_end end t.tables t.block
-read_lines second end t (l ∷ ls) = and_then (next_line second t.tables t.block l) (λ u. read_lines second end u ls)
+read_lines second end t (l ∷ ls) =
+    and_then (next_line second t.tables t.block l) (λ u. read_lines second end u ls)
 
 abbrev pub after_head : Place → Place → Option Bool → List Line → Result (List SeenTable) TableFault
 after_head end at None ls = Err (TableSyntax at)

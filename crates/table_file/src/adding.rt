@@ -1,8 +1,10 @@
 // What a line whose faults were ruled out says of a model.
 ghost use Rattle.std.specs.Prelude.{◌≡◌, ◌-◌, ◌^◌, ◌<◌, ◌≤◌, map, length, IfOk, IfSome, All};
 ghost use Rattle.instruments.specs.Seen.{seen_out, seen_row as seen_model_row, seen_model};
-ghost use Rattle.table_file.specs.Tables.{known, operand_of, cond_width, cond_said, slot_said, amount_said, set_said, row_said, out_said};
-ghost use Rattle.table_lines.specs.SeenSaid.{seen_slot, seen_cond, seen_slice, seen_amount, seen_set, seen_row};
+ghost use Rattle.table_file.specs.Tables.{known, operand_of, cond_width, cond_said, slot_said, amount_said};
+ghost use Rattle.table_file.specs.Tables.{set_said, row_said, out_said};
+ghost use Rattle.table_lines.specs.SeenSaid.{seen_slot, seen_cond, seen_slice, seen_amount, seen_set};
+ghost use Rattle.table_lines.specs.SeenSaid.{seen_row};
 ghost use Rattle.instruments.specs.Models.{word_width};
 ghost use Rattle.table_file.specs.Small.{AreNarrow, IsFewAmount};
 
@@ -145,7 +147,8 @@ pub(crate) fn out_said(
 ) -> Result<OutDef, OutOfMemory>
     requires words { length m.now.words.items ≤ 8 }
     requires few { IfSome slice.now.bounds (λ b. (b.0 < 2 ^ 32) × (b.1 < 2 ^ 32)) }
-    ensures { IfOk result (λ d. seen_out d ≡ out_said (seen_model m.now) name.now (seen_slice slice.now).word (seen_slice slice.now).bounds) }
+    ensures { IfOk result (λ d. seen_out d
+        ≡ out_said (seen_model m.now) name.now (seen_slice slice.now).word (seen_slice slice.now).bounds) }
 {
     let name = name_of(alloc, name)?;
     let word = slice_word(m, slice.word);

@@ -1,5 +1,6 @@
 // The blocks of a table file, line by line.
-ghost use Rattle.std.specs.Prelude.{◌≡◌, ◌+◌, ◌^◌, ◌<◌, ◌≤◌, ◌++◌, ◌∷◌, [], List, map, length, is_some, option_map, IfOk, IfSome, OnOk, MatchOption, Ok, Err, None, Some, false};
+ghost use Rattle.std.specs.Prelude.{◌≡◌, ◌+◌, ◌^◌, ◌<◌, ◌≤◌, ◌++◌, ◌∷◌, [], List, map, length, is_some};
+ghost use Rattle.std.specs.Prelude.{option_map, IfOk, IfSome, OnOk, MatchOption, Ok, Err, None, Some, false};
 ghost use Rattle.ij_text.specs.Numbering.{number_in};
 ghost use Rattle.ij_text.specs.declared.Place.{Place};
 ghost use Rattle.ij_text.specs.Parts.{split};
@@ -8,8 +9,10 @@ ghost use Rattle.table_lines.specs.Reading.{texts};
 ghost use Rattle.table_lines.specs.Said.{instrument};
 ghost use Rattle.table_lines.specs.SeenSaid.{seen_said};
 ghost use Rattle.table_file.specs.Small.{IsSmall};
-ghost use Rattle.table_file.specs.Answers.{GivesBlock, GivesTable, IsSoFar, open_path, seen_block, seen_so_far};
-ghost use Rattle.table_file.specs.Tables.{empty, seen_table, rank, width_fault, limit_fault, with_line, after_line, block_line, new_block, put_block, next_line};
+ghost use Rattle.table_file.specs.Answers.{GivesBlock, GivesTable, IsSoFar, open_path, seen_block};
+ghost use Rattle.table_file.specs.Answers.{seen_so_far};
+ghost use Rattle.table_file.specs.Tables.{empty, seen_table, rank, width_fault, limit_fault, with_line};
+ghost use Rattle.table_file.specs.Tables.{after_line, block_line, new_block, put_block, next_line};
 
 use crate::fault::TableFault;
 use crate::growing::with_line;
@@ -86,7 +89,8 @@ fn new_block(
 ) -> Result<Block, TableFault>
     requires { length paths.old + 1 < 2 ^ 32 }
     ensures value { GivesBlock paths.old at (texts words.now) result }
-    ensures paths { IfOk result (λ b. map (split 46) paths.new ≡ map (split 46) paths.old ++ (seen_block b).path ∷ []) }
+    ensures paths { IfOk result
+        (λ b. map (split 46) paths.new ≡ map (split 46) paths.old ++ (seen_block b).path ∷ []) }
     ensures more { IfOk result (λ b. length paths.new ≤ length paths.old + 1) }
     ensures small { IfOk result (λ b. IsSmall (seen_model b.model)) }
 {
@@ -107,7 +111,12 @@ fn new_block(
 /// What is at fault in a line of a block.
 fn line_fault(at: Place, b: &Block, l: &SaidLine) -> Option<TableFault>
     requires { IsSmall (seen_model b.now.model) }
-    ensures value { MatchOption result (after_line at (seen_block b.now) (seen_said l.now) ≡ Ok (record (seen_block b.now) { rank = rank (seen_said l.now); model = with_line (seen_model b.now.model) (seen_said l.now) })) (λ fault. after_line at (seen_block b.now) (seen_said l.now) ≡ Err fault) }
+    ensures value { MatchOption result (after_line at (seen_block b.now) (seen_said l.now) ≡ Ok
+        (record (seen_block b.now) {
+          rank = rank (seen_said l.now);
+          model = with_line (seen_model b.now.model)
+              (seen_said l.now);
+        })) (λ fault. after_line at (seen_block b.now) (seen_said l.now) ≡ Err fault) }
     ensures width { result ≡ None → width_fault (seen_model b.now.model) (seen_said l.now) ≡ false }
     ensures limit { result ≡ None → limit_fault (seen_model b.now.model) (seen_said l.now) ≡ false }
 {
@@ -129,7 +138,8 @@ fn line_fault(at: Place, b: &Block, l: &SaidLine) -> Option<TableFault>
 /// Adds a line to a block.
 fn after_line(alloc: Global, at: Place, b: &mut Block, l: &SaidLine) -> Result<(), TableFault>
     requires { IsSmall (seen_model b.old.model) }
-    ensures value { GivesTable (λ _. seen_block b.new) result (after_line at (seen_block b.old) (seen_said l.now)) }
+    ensures value { GivesTable (λ _. seen_block b.new) result
+        (after_line at (seen_block b.old) (seen_said l.now)) }
     ensures path { OnOk result ((seen_block b.new).path ≡ (seen_block b.old).path) }
     ensures small { OnOk result (IsSmall (seen_model b.new.model)) }
 {
@@ -148,7 +158,8 @@ fn block_line(
     words: &[&[u8]],
 ) -> Result<(), TableFault>
     requires { IsSmall (seen_model b.old.model) }
-    ensures value { GivesTable (λ _. seen_block b.new) result (block_line second (seen_block b.old) (record { at = at; words = texts words.now })) }
+    ensures value { GivesTable (λ _. seen_block b.new) result
+        (block_line second (seen_block b.old) (record { at = at; words = texts words.now })) }
     ensures path { OnOk result ((seen_block b.new).path ≡ (seen_block b.old).path) }
     ensures small { OnOk result (IsSmall (seen_model b.new.model)) }
 {
@@ -160,8 +171,10 @@ fn block_line(
 
 /// The line `end` makes a table of a block; a block that goes on is given back.
 fn put_block(tables: &mut List<Table>, b: Block) -> Result<Option<Block>, OutOfMemory>
-    ensures value { IfOk result (λ left. put_block (map seen_table tables.old.items) (Ok (seen_block b)) ≡ Ok (record { tables = map seen_table tables.new.items; block = option_map seen_block left })) }
-    ensures paths { IfOk result (λ left. map (λ t. t.path) (map seen_table tables.new.items) ++ open_path left ≡ map (λ t. t.path) (map seen_table tables.old.items) ++ (seen_block b).path ∷ []) }
+    ensures value { IfOk result (λ left. put_block (map seen_table tables.old.items) (Ok (seen_block b))
+        ≡ Ok (record { tables = map seen_table tables.new.items; block = option_map seen_block left })) }
+    ensures paths { IfOk result (λ left. map (λ t. t.path) (map seen_table tables.new.items) ++ open_path left
+        ≡ map (λ t. t.path) (map seen_table tables.old.items) ++ (seen_block b).path ∷ []) }
     ensures same { IfOk result (λ left. IfSome left (λ o. o ≡ b)) }
 {
     if b.rank != 6 {
@@ -182,9 +195,12 @@ fn first_line(
     at: Place,
     words: &[&[u8]],
 ) -> Result<(), TableFault>
-    requires listed { map (split 46) so_far.old.paths ≡ map (λ t. t.path) (map seen_table so_far.old.tables.items) }
+    requires listed { map (split 46) so_far.old.paths
+        ≡ map (λ t. t.path) (map seen_table so_far.old.tables.items) }
     requires few { length so_far.old.paths + 1 < 2 ^ 32 }
-    ensures value { GivesTable (λ _. seen_so_far so_far.new) result (put_block (map seen_table so_far.old.tables.items) (new_block at (map seen_table so_far.old.tables.items) (instrument (texts words.now)))) }
+    ensures value { GivesTable (λ _. seen_so_far so_far.new) result
+        (put_block (map seen_table so_far.old.tables.items)
+        (new_block at (map seen_table so_far.old.tables.items) (instrument (texts words.now)))) }
     ensures still { OnOk result (IsSoFar so_far.new) }
     ensures more { OnOk result (length so_far.new.paths ≤ length so_far.old.paths + 1) }
 {
@@ -202,9 +218,12 @@ fn more_lines(
     at: Place,
     words: &[&[u8]],
 ) -> Result<(), TableFault>
-    requires listed { map (split 46) so_far.old.paths ≡ map (λ t. t.path) (map seen_table so_far.old.tables.items) ++ (seen_block block).path ∷ [] }
+    requires listed { map (split 46) so_far.old.paths
+        ≡ map (λ t. t.path) (map seen_table so_far.old.tables.items) ++ (seen_block block).path ∷ [] }
     requires small { IsSmall (seen_model block.model) }
-    ensures value { GivesTable (λ _. seen_so_far so_far.new) result (put_block (map seen_table so_far.old.tables.items) (block_line second (seen_block block) (record { at = at; words = texts words.now }))) }
+    ensures value { GivesTable (λ _. seen_so_far so_far.new) result
+        (put_block (map seen_table so_far.old.tables.items)
+        (block_line second (seen_block block) (record { at = at; words = texts words.now }))) }
     ensures still { OnOk result (IsSoFar so_far.new) }
     ensures paths { OnOk result (so_far.new.paths ≡ so_far.old.paths) }
 {
@@ -224,7 +243,8 @@ pub(crate) fn next_line(
 ) -> Result<(), TableFault>
     requires so_far { IsSoFar so_far.old }
     requires few { length so_far.old.paths + 1 < 2 ^ 32 }
-    ensures value { GivesTable (λ _. seen_so_far so_far.new) result (next_line second (seen_so_far so_far.old).tables (seen_so_far so_far.old).block (record { at = at; words = texts words.now })) }
+    ensures value { GivesTable (λ _. seen_so_far so_far.new) result (next_line second (seen_so_far
+        so_far.old).tables (seen_so_far so_far.old).block (record { at = at; words = texts words.now })) }
     ensures still { OnOk result (IsSoFar so_far.new) }
     ensures more { OnOk result (length so_far.new.paths ≤ length so_far.old.paths + 1) }
 {

@@ -6,14 +6,14 @@ use ij_bits::OutOfMemory;
 use ij_text::Place;
 use std::alloc::{AllocError, AllocFailed};
 
-/// Why a text isn't a table file. The place is the first byte of a line's first word, or the one after the last byte
-/// where a line is missing.
+/// Why a text isn't a table file. The place is the first byte of a line's first word, or the one after the
+/// last byte where a line is missing.
 #[derive(Clone, Copy, PartialEq, Eq, Debug)]
 pub enum TableFault {
     /// The line isn't what may stand at its place of the file.
     TableSyntax { at: Place },
-    /// A name that isn't there, stands twice, or is of another kind than its place wants; or a word or the memory is set
-    /// twice in a row.
+    /// A name that isn't there, stands twice, or is of another kind than its place wants; or a word or the
+    /// memory is set twice in a row.
     TableName { at: Place },
     /// A number or slice that doesn't fit, or a name of another width than what is set.
     TableWidth { at: Place },

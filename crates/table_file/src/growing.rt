@@ -43,7 +43,13 @@ fn word_def(
 ) -> Result<WordDef, OutOfMemory>
     requires width { width ≤ 64 }
     requires starts { AreFewStarts (seen_starts starts.now) }
-    ensures { IfOk result (λ d. seen_word d ≡ record { name = name.now; width = width; init = (seen_starts starts.now).init; reset = (seen_starts starts.now).reset }) }
+    ensures { IfOk result (λ d. seen_word d ≡ record {
+      name = name.now;
+      width = width;
+      init =
+          (seen_starts starts.now).init;
+      reset = (seen_starts starts.now).reset;
+    }) }
 {
     Ok(WordDef {
         name: name_of(alloc, name)?,
@@ -63,7 +69,14 @@ fn mem_def(
     requires depth { depth ≤ 256 }
     requires width { width ≤ 64 }
     requires starts { AreFewStarts (seen_starts starts.now) }
-    ensures { IfOk result (λ d. seen_memory d ≡ record { name = name.now; depth = depth; width = width; init = (seen_starts starts.now).init; reset = (seen_starts starts.now).reset }) }
+    ensures { IfOk result (λ d. seen_memory d ≡ record {
+      name = name.now;
+      depth = depth;
+      width = width;
+      init =
+          (seen_starts starts.now).init;
+      reset = (seen_starts starts.now).reset;
+    }) }
 {
     Ok(MemDef {
         name: name_of(alloc, name)?,
@@ -91,7 +104,8 @@ fn with_word(
 ) -> Result<(), OutOfMemory>
     requires width { width_fault (seen_model m.old) (Word name.now width (seen_starts starts.now)) ≡ false }
     requires limit { limit_fault (seen_model m.old) (Word name.now width (seen_starts starts.now)) ≡ false }
-    ensures { OnOk result (seen_model m.new ≡ with_line (seen_model m.old) (Word name.now width (seen_starts starts.now))) }
+    ensures { OnOk result (seen_model m.new
+        ≡ with_line (seen_model m.old) (Word name.now width (seen_starts starts.now))) }
 {
     m.words.push(word_def(alloc, name, width, starts)?)
 }
@@ -104,9 +118,12 @@ fn with_memory(
     width: u128,
     starts: &StartNumbers,
 ) -> Result<(), OutOfMemory>
-    requires width { width_fault (seen_model m.old) (Memory name.now depth width (seen_starts starts.now)) ≡ false }
-    requires limit { limit_fault (seen_model m.old) (Memory name.now depth width (seen_starts starts.now)) ≡ false }
-    ensures { OnOk result (seen_model m.new ≡ with_line (seen_model m.old) (Memory name.now depth width (seen_starts starts.now))) }
+    requires width { width_fault (seen_model m.old)
+        (Memory name.now depth width (seen_starts starts.now)) ≡ false }
+    requires limit { limit_fault (seen_model m.old)
+        (Memory name.now depth width (seen_starts starts.now)) ≡ false }
+    ensures { OnOk result (seen_model m.new
+        ≡ with_line (seen_model m.old) (Memory name.now depth width (seen_starts starts.now))) }
 {
     m.mem = Some(mem_def(alloc, name, depth, width, starts)?);
     Ok(())
@@ -115,7 +132,8 @@ fn with_memory(
 fn with_output(alloc: Global, m: &mut Model, name: &[u8], slice: &Slice) -> Result<(), OutOfMemory>
     requires small { IsSmall (seen_model m.old) }
     requires width { width_fault (seen_model m.old) (Output name.now (seen_slice slice.now)) ≡ false }
-    ensures { OnOk result (seen_model m.new ≡ with_line (seen_model m.old) (Output name.now (seen_slice slice.now))) }
+    ensures { OnOk result (seen_model m.new
+        ≡ with_line (seen_model m.old) (Output name.now (seen_slice slice.now))) }
 {
     let out = out_said(alloc, m, name, slice)?;
     m.outs.push(out)

@@ -17,7 +17,8 @@ fn no_width(width: u128) -> bool
 fn no_row(m: &Model) -> bool
     requires change { length m.now.change.items ≤ 64 }
     requires run { length m.now.run.items ≤ 64 }
-    ensures { result ≡ nat_le 64 (length (map seen_row m.now.change.items) + length (map seen_row m.now.run.items)) }
+    ensures { result
+        ≡ nat_le 64 (length (map seen_row m.now.change.items) + length (map seen_row m.now.run.items)) }
 {
     64 <= m.change.len() + m.run.len()
 }

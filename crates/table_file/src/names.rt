@@ -3,8 +3,11 @@ ghost use Rattle.std.specs.Prelude.{◌≡◌, ◌+◌, ◌<◌, ◌≤◌, ◌|
 ghost use Rattle.std.specs.List.{list_any};
 ghost use Rattle.instruments.specs.Seen.{seen_word, seen_port, seen_memory, seen_out, seen_model};
 ghost use Rattle.instruments.specs.Models.{memory_names, names};
-ghost use Rattle.table_file.specs.Tables.{named, stands_in, word_named, input_named, operand_named, cond_operand, no_operand, no_entry, no_slot, no_amount, target, row_names, name_fault, has_twice};
-ghost use Rattle.table_lines.specs.SeenSaid.{seen_entry, seen_slot, seen_amount, seen_cond, seen_set, seen_row, seen_said};
+ghost use Rattle.table_file.specs.Tables.{named, stands_in, word_named, input_named, operand_named};
+ghost use Rattle.table_file.specs.Tables.{cond_operand, no_operand, no_entry, no_slot, no_amount, target};
+ghost use Rattle.table_file.specs.Tables.{row_names, name_fault, has_twice};
+ghost use Rattle.table_lines.specs.SeenSaid.{seen_entry, seen_slot, seen_amount, seen_cond, seen_set};
+ghost use Rattle.table_lines.specs.SeenSaid.{seen_row, seen_said};
 
 use instruments::{MemDef, Model, Operand, OutDef, PortDef, WordDef};
 use table_lines::{SaidAmount, SaidCond, SaidEntry, SaidLine, SaidRow, SaidSet, SaidSlot, is};
@@ -157,7 +160,8 @@ fn cond_fault(m: &Model, c: &SaidCond) -> bool
 fn set_fault(m: &Model, x: &SaidSet) -> bool
     requires words { length m.now.words.items ≤ 8 }
     requires ins { length m.now.ins.items ≤ 16 }
-    ensures { result ≡ (no_slot (seen_model m.now) (seen_slot x.now.slot) || no_amount (seen_model m.now) (seen_amount x.now.amount)) }
+    ensures { result ≡ (no_slot (seen_model m.now) (seen_slot x.now.slot) || no_amount
+        (seen_model m.now) (seen_amount x.now.amount)) }
 {
     no_slot(m, &x.slot) || no_amount(m, &x.amount)
 }
@@ -165,7 +169,8 @@ fn set_fault(m: &Model, x: &SaidSet) -> bool
 fn any_cond_fault(m: &Model, conds: &[SaidCond]) -> bool
     requires words { length m.now.words.items ≤ 8 }
     requires ins { length m.now.ins.items ≤ 16 }
-    ensures { result ≡ list_any (λ c. not (is_some (cond_operand (seen_model m.now) c))) (map seen_cond conds.now) }
+    ensures { result
+        ≡ list_any (λ c. not (is_some (cond_operand (seen_model m.now) c))) (map seen_cond conds.now) }
 {
     for c in conds {
         if cond_fault(m, c) {
@@ -178,7 +183,8 @@ fn any_cond_fault(m: &Model, conds: &[SaidCond]) -> bool
 fn any_set_fault(m: &Model, sets: &[SaidSet]) -> bool
     requires words { length m.now.words.items ≤ 8 }
     requires ins { length m.now.ins.items ≤ 16 }
-    ensures { result ≡ list_any (λ x. no_slot (seen_model m.now) x.slot || no_amount (seen_model m.now) x.amount) (map seen_set sets.now) }
+    ensures { result ≡ list_any (λ x. no_slot (seen_model m.now) x.slot || no_amount
+        (seen_model m.now) x.amount) (map seen_set sets.now) }
 {
     for x in sets {
         if set_fault(m, x) {

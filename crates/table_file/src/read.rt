@@ -1,5 +1,6 @@
 // The tables of a file.
-ghost use Rattle.std.specs.Prelude.{◌≡◌, ◌+◌, ◌^◌, ◌<◌, ◌≤◌, [], length, All, IfOk, OnOk, IsErr, IsErrOf, Ok, Err, None, Some};
+ghost use Rattle.std.specs.Prelude.{◌≡◌, ◌+◌, ◌^◌, ◌<◌, ◌≤◌, [], length, All, IfOk, OnOk, IsErr, IsErrOf, Ok};
+ghost use Rattle.std.specs.Prelude.{Err, None, Some};
 ghost use Rattle.ij_text.specs.declared.Place.{Place};
 ghost use Rattle.instruments.specs.Models.{IsModel};
 ghost use Rattle.instruments.specs.Seen.{seen_model};
@@ -30,7 +31,8 @@ fn nothing(alloc: Global) -> SoFar
 
 /// After the last line no block may be open.
 fn at_end(end: Place, so_far: SoFar) -> Result<List<Table>, TableFault>
-    ensures { GivesTable seen_tables result (at_end end (seen_so_far so_far).tables (seen_so_far so_far).block) }
+    ensures { GivesTable seen_tables result
+        (at_end end (seen_so_far so_far).tables (seen_so_far so_far).block) }
 {
     let SoFar {
         paths,
@@ -57,7 +59,8 @@ fn one_line(
 ) -> Result<(), TableFault>
     requires so_far { IsSoFar so_far.old }
     requires few { length so_far.old.paths + 1 < 2 ^ 32 }
-    ensures value { GivesTable (λ _. seen_so_far so_far.new) result (next_line second (seen_so_far so_far.old).tables (seen_so_far so_far.old).block (seen_line at text.now)) }
+    ensures value { GivesTable (λ _. seen_so_far so_far.new) result (next_line second
+        (seen_so_far so_far.old).tables (seen_so_far so_far.old).block (seen_line at text.now)) }
     ensures still { OnOk result (IsSoFar so_far.new) }
     ensures more { OnOk result (length so_far.new.paths ≤ length so_far.old.paths + 1) }
 {
@@ -108,11 +111,11 @@ fn read(alloc: Global, src: &[u8]) -> Result<List<Table>, TableFault>
     from_head(alloc, end_place(src), src)
 }
 
-/// Reads a file of tables, which say what the instruments of a network do: a line `tables 1` or `tables 2`, and then a block
-/// for each instrument.
+/// Reads a file of tables, which say what the instruments of a network do: a line `tables 1` or `tables 2`,
+/// and then a block for each instrument.
 ///
-/// Fields are separated by spaces and tabs, `#` starts a comment, and lines without fields are passed over. A block has these
-/// lines, in this order of kinds:
+/// Fields are separated by spaces and tabs, `#` starts a comment, and lines without fields are passed over. A
+/// block has these lines, in this order of kinds:
 ///
 /// ```text
 /// instrument PATH
@@ -125,13 +128,14 @@ fn read(alloc: Global, src: &[u8]) -> Result<List<Table>, TableFault>
 /// end
 /// ```
 ///
-/// COND is `NAME = NUMBER`, and in a change row also `old NAME = NUMBER` for an input before the change; its number may have
-/// x. SET is `WORD = AMOUNT` or, in version 2, `MEM[NAME] = AMOUNT`; AMOUNT is a number, a name, `NAME + DECIMAL` or
-/// `NAME - DECIMAL`, and for a word in version 2 also `MEM[NAME]`. The line `mem` stands in version 2 alone, once a block.
+/// COND is `NAME = NUMBER`, and in a change row also `old NAME = NUMBER` for an input before the change; its
+/// number may have x. SET is `WORD = AMOUNT` or, in version 2, `MEM[NAME] = AMOUNT`; AMOUNT is a number, a
+/// name, `NAME + DECIMAL` or `NAME - DECIMAL`, and for a word in version 2 also `MEM[NAME]`. The line `mem`
+/// stands in version 2 alone, once a block.
 ///
-/// The first line at fault decides what is refused. In one line the order of the causes is `TableSyntax`, `TableName`,
-/// `TableWidth`, `TableLimit`; a second block for a path is `TableTwice`. What is read takes memory by `alloc`; where there is
-/// none, the answer is `OutOfMemory`.
+/// The first line at fault decides what is refused. In one line the order of the causes is `TableSyntax`,
+/// `TableName`, `TableWidth`, `TableLimit`; a second block for a path is `TableTwice`. What is read takes
+/// memory by `alloc`; where there is none, the answer is `OutOfMemory`.
 ///
 /// Each table's model is well formed (`IsModel`, `specs/Models.antt` of `instruments`).
 ///
@@ -141,11 +145,16 @@ pub fn read_tables(alloc: Global, src: &[u8]) -> Result<List<Table>, TableFault>
     ensures ok { IfOk result (λ ts. tables src.now ≡ Ok (seen_tables ts)) }
     ensures models { IfOk result (λ ts. All (λ t. IsModel (seen_model t.model)) ts.items) }
     ensures refused { (fault : TableFault) → tables src.now ≡ Err fault → IsErr result }
-    ensures syntax { (at : Place) → IsErrOf result (TableFault.TableSyntax at) → tables src.now ≡ Err (TableFault.TableSyntax at) }
-    ensures name { (at : Place) → IsErrOf result (TableFault.TableName at) → tables src.now ≡ Err (TableFault.TableName at) }
-    ensures width { (at : Place) → IsErrOf result (TableFault.TableWidth at) → tables src.now ≡ Err (TableFault.TableWidth at) }
-    ensures limit { (at : Place) → IsErrOf result (TableFault.TableLimit at) → tables src.now ≡ Err (TableFault.TableLimit at) }
-    ensures twice { (at : Place) → IsErrOf result (TableFault.TableTwice at) → tables src.now ≡ Err (TableFault.TableTwice at) }
+    ensures syntax { (at : Place) → IsErrOf result (TableFault.TableSyntax at)
+        → tables src.now ≡ Err (TableFault.TableSyntax at) }
+    ensures name { (at : Place) → IsErrOf result (TableFault.TableName at)
+        → tables src.now ≡ Err (TableFault.TableName at) }
+    ensures width { (at : Place) → IsErrOf result (TableFault.TableWidth at)
+        → tables src.now ≡ Err (TableFault.TableWidth at) }
+    ensures limit { (at : Place) → IsErrOf result (TableFault.TableLimit at)
+        → tables src.now ≡ Err (TableFault.TableLimit at) }
+    ensures twice { (at : Place) → IsErrOf result (TableFault.TableTwice at)
+        → tables src.now ≡ Err (TableFault.TableTwice at) }
 {
     read(alloc, src)
 }

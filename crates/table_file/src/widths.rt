@@ -5,8 +5,11 @@ ghost use Rattle.instruments.specs.Seen.{seen_memory, seen_model};
 ghost use Rattle.instruments.specs.After.{memory_width};
 ghost use Rattle.instruments.specs.Models.{word_width, input_width, operand_width};
 ghost use Rattle.table_lines.specs.Words.{is_wide};
-ghost use Rattle.table_file.specs.Tables.{known, word_named, name_width, cond_width, slot_width, starts_above, bounds_outside, amount_width, row_widths, width_fault};
-ghost use Rattle.table_lines.specs.SeenSaid.{seen_slot, seen_amount, seen_cond, seen_set, seen_row, seen_starts, seen_said};
+ghost use Rattle.table_file.specs.Tables.{known, word_named, name_width, cond_width, slot_width};
+ghost use Rattle.table_file.specs.Tables.{starts_above, bounds_outside, amount_width, row_widths};
+ghost use Rattle.table_file.specs.Tables.{width_fault};
+ghost use Rattle.table_lines.specs.SeenSaid.{seen_slot, seen_amount, seen_cond, seen_set, seen_row};
+ghost use Rattle.table_lines.specs.SeenSaid.{seen_starts, seen_said};
 
 use crate::names::{cond_operand, operand_named, word_named};
 use instruments::{MemDef, Model, Operand};
@@ -124,7 +127,8 @@ fn cond_wide(m: &Model, c: &SaidCond) -> bool
 fn set_wide(m: &Model, x: &SaidSet) -> bool
     requires words { length m.now.words.items ≤ 8 }
     requires ins { length m.now.ins.items ≤ 16 }
-    ensures { result ≡ amount_width (seen_model m.now) (slot_width (seen_model m.now) (seen_slot x.now.slot)) (seen_amount x.now.amount) }
+    ensures { result ≡ amount_width (seen_model m.now)
+        (slot_width (seen_model m.now) (seen_slot x.now.slot)) (seen_amount x.now.amount) }
 {
     amount_width(m, slot_width(m, &x.slot), &x.amount)
 }
@@ -132,7 +136,8 @@ fn set_wide(m: &Model, x: &SaidSet) -> bool
 fn any_cond_wide(m: &Model, conds: &[SaidCond]) -> bool
     requires words { length m.now.words.items ≤ 8 }
     requires ins { length m.now.ins.items ≤ 16 }
-    ensures { result ≡ list_any (λ c. is_wide (cond_width (seen_model m.now) c) c.number) (map seen_cond conds.now) }
+    ensures { result
+        ≡ list_any (λ c. is_wide (cond_width (seen_model m.now) c) c.number) (map seen_cond conds.now) }
 {
     for c in conds {
         if cond_wide(m, c) {
@@ -145,7 +150,8 @@ fn any_cond_wide(m: &Model, conds: &[SaidCond]) -> bool
 fn any_set_wide(m: &Model, sets: &[SaidSet]) -> bool
     requires words { length m.now.words.items ≤ 8 }
     requires ins { length m.now.ins.items ≤ 16 }
-    ensures { result ≡ list_any (λ x. amount_width (seen_model m.now) (slot_width (seen_model m.now) x.slot) x.amount) (map seen_set sets.now) }
+    ensures { result ≡ list_any (λ x. amount_width (seen_model m.now)
+        (slot_width (seen_model m.now) x.slot) x.amount) (map seen_set sets.now) }
 {
     for x in sets {
         if set_wide(m, x) {

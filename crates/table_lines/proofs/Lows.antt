@@ -1,5 +1,7 @@
 -- The lowest bits of a number, taken from the highest of them down.
-use Rattle.std.proofs.Common.{◌≡◌, ℕ, zero, suc, ◌+◌, ◌-◌, ◌*◌, ◌/◌, ◌%◌, ◌^◌, ◌<◌, ◌≤◌, Bool, true, false, List, [], ◌∷◌, length, map, drop, get_or, Option, Some, refl, ap, sym, ◌∙◌, arith, drop-cons}
+use Rattle.std.proofs.Common.{◌≡◌, ℕ, zero, suc, ◌+◌, ◌-◌, ◌*◌, ◌/◌, ◌%◌, ◌^◌, ◌<◌, ◌≤◌, Bool, true, false}
+use Rattle.std.proofs.Common.{List, [], ◌∷◌, length, map, drop, get_or, Option, Some, refl, ap, sym, ◌∙◌}
+use Rattle.std.proofs.Common.{arith, drop-cons}
 use Rattle.std.specs.Prelude.{if◌then◌else◌, ◌==◌, is_some}
 use Rattle.std.proofs.Math.ListN.{drop_of_length-le}
 use Rattle.std.proofs.Math.Pow.{pow_mono}
@@ -11,14 +13,17 @@ use Rattle.ij_text.specs.Numbers.{InDecimal, InBits, bits_in}
 use Rattle.table_lines.specs.Words.{is_one}
 use Rattle.ij_bits.proofs.WordBits.{length-bits_of}
 
-pub start : (f : Option Bool → Bool) (width : ℕ) (xs : List (Option Bool)) → 0 ≡ number_of (map f (drop (width - 0) (bits_in width (InBits xs))))
+pub start : (f : Option Bool → Bool) (width : ℕ) (xs : List (Option Bool))
+    → 0 ≡ number_of (map f (drop (width - 0) (bits_in width (InBits xs))))
 start f width xs =
     let long = length-map-range_with_len (λ k. get_or xs k (Some false)) 0 width in
     let all : length (bits_in width (InBits xs)) ≤ width - 0 = omega (arith, long) in
     sym (ap (λ bs. number_of (map f bs)) (drop_of_length-le (bits_in width (InBits xs)) all))
 
-pub step : (f : Option Bool → Bool) (width k n : ℕ) (xs : List (Option Bool)) (b : Option Bool) → k < width → b ≡ get_or xs (width - 1 - k) (Some false)
-    → n ≡ number_of (map f (drop (width - k) (bits_in width (InBits xs)))) → (if f b then 1 else 0) + 2 * n ≡ number_of (map f (drop (width - (k + 1)) (bits_in width (InBits xs))))
+pub step : (f : Option Bool → Bool) (width k n : ℕ) (xs : List (Option Bool)) (b : Option Bool) → k < width
+    → b ≡ get_or xs (width - 1 - k) (Some false)
+    → n ≡ number_of (map f (drop (width - k) (bits_in width (InBits xs)))) → (if f b then 1 else 0) + 2 * n
+    ≡ number_of (map f (drop (width - (k + 1)) (bits_in width (InBits xs))))
 step f width k n xs b within is so_far =
     let bits = bits_in width (InBits xs) in
     let i = width - (k + 1) in
@@ -27,8 +32,10 @@ step f width k n xs b within is so_far =
     let below : i < width = omega (arith, within) in
     let next : suc i ≡ width - k = omega (arith, within) in
     let same : width - 1 - k ≡ i = omega (arith, within) in
-    let at : get_or bits i (Some false) ≡ b = get_or-map-range_with_len (λ k. get_or xs k (Some false)) 0 width i i (Some false) below (omega arith) ∙ ap (λ j. get_or xs j (Some false)) (sym same) ∙ sym is in
-    let cut : drop i bits ≡ b ∷ drop (width - k) bits = drop-cons bits i (Some false) inside ∙ ap (λ x. x ∷ drop (suc i) bits) at ∙ ap (λ j. b ∷ drop j bits) next in
+    let at : get_or bits i (Some false) ≡ b = get_or-map-range_with_len (λ k. get_or xs k (Some false)) 0
+    width i i (Some false) below (omega arith) ∙ ap (λ j. get_or xs j (Some false)) (sym same) ∙ sym is in
+    let cut : drop i bits ≡ b ∷ drop (width - k) bits = drop-cons bits i (Some false) inside
+    ∙ ap (λ x. x ∷ drop (suc i) bits) at ∙ ap (λ j. b ∷ drop j bits) next in
     sym (ap (λ bs. number_of (map f bs)) cut ∙ ap (λ m. (if f b then 1 else 0) + 2 * m) (sym so_far))
 
 pub small_step : (bit : Bool) (k n : ℕ) → n < 2 ^ k → (if bit then 1 else 0) + 2 * n < 2 ^ (k + 1)
@@ -41,7 +48,9 @@ fits k width n h within few =
     let most : 2 ^ k ≤ 2 ^ 63 = pow_mono short in
     omega (arith, h, most)
 
-pub all_of : (f : Option Bool → Bool) (width k n : ℕ) (xs : List (Option Bool)) → k ≡ width → n ≡ number_of (map f (drop (width - k) (bits_in width (InBits xs)))) → n ≡ number_of (map f (bits_in width (InBits xs)))
+pub all_of : (f : Option Bool → Bool) (width k n : ℕ) (xs : List (Option Bool)) → k ≡ width
+    → n ≡ number_of (map f (drop (width - k) (bits_in width (InBits xs))))
+    → n ≡ number_of (map f (bits_in width (InBits xs)))
 all_of f width k n xs end so_far =
     let none : width - k ≡ 0 = omega (arith, end) in
     so_far ∙ ap (λ j. number_of (map f (drop j (bits_in width (InBits xs))))) none

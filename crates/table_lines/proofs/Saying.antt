@@ -1,5 +1,6 @@
 -- Numbers that words say.
-use Rattle.std.proofs.Common.{◌≡◌, ℕ, ◌+◌, ◌*◌, ◌^◌, ◌<◌, ◌≤◌, Bool, true, false, cond, nat_lt, nat_le, List, length, drop, Option, Some, None, ap, sym, ◌∙◌, arith}
+use Rattle.std.proofs.Common.{◌≡◌, ℕ, ◌+◌, ◌*◌, ◌^◌, ◌<◌, ◌≤◌, Bool, true, false, cond, nat_lt, nat_le, List}
+use Rattle.std.proofs.Common.{length, drop, Option, Some, None, ap, sym, ◌∙◌, arith}
 use Rattle.std.specs.Prelude.{◌⊎◌, Result, Ok, Err}
 use Rattle.std.specs.List.{list_any}
 use Rattle.std.proofs.Common.{inl, inr}
@@ -33,7 +34,8 @@ wide (InBits bits) h = above 4096 (length bits) h
     above : (m n : ℕ) → m < n → nat_lt m n ≡ true
     above m n h = grind (arith, nat_tests)
 
-pub is_number : (text : List ℕ) (w : Written) → number_of_text text ≡ Some w → (SaysTooWide (number_of_text text) → ⊥) → Some w ≡ number text
+pub is_number : (text : List ℕ) (w : Written) → number_of_text text ≡ Some w
+    → (SaysTooWide (number_of_text text) → ⊥) → Some w ≡ number text
 unfolding number
 is_number text w is not_so =
     let fits : IsTooWide w → ⊥ = rw is at not_so in
@@ -67,17 +69,22 @@ in_word i n h few =
 
 -- ---- faults of numbers
 
-pub bad_arm : {T : Type 0} (p at : Place) (w : Option Written) → (BadNumber p ≡ BadNumber at) ⊎ ((BadNumber p ≡ TooWide at) ⊎ (BadNumber p ≡ OutOfMemory)) → (◌≡◌ {A = Result T NumberFault} (Err (BadNumber p)) (Err (BadNumber at)) → w ≡ None) → w ≡ None
+pub bad_arm : {T : Type 0} (p at : Place) (w : Option Written)
+    → (BadNumber p ≡ BadNumber at) ⊎ ((BadNumber p ≡ TooWide at) ⊎ (BadNumber p ≡ OutOfMemory))
+    → (◌≡◌ {A = Result T NumberFault} (Err (BadNumber p)) (Err (BadNumber at)) → w ≡ None) → w ≡ None
 bad_arm p at w (inl e) bad = bad (ap Err e)
 bad_arm p at w (inr (inl e)) bad = absurd (cc)
 bad_arm p at w (inr (inr e)) bad = absurd (cc)
 
-pub wide_arm : {T : Type 0} (p at : Place) (w : Option Written) → (TooWide p ≡ BadNumber at) ⊎ ((TooWide p ≡ TooWide at) ⊎ (TooWide p ≡ OutOfMemory)) → (◌≡◌ {A = Result T NumberFault} (Err (TooWide p)) (Err (TooWide at)) → SaysTooWide w) → SaysTooWide w
+pub wide_arm : {T : Type 0} (p at : Place) (w : Option Written)
+    → (TooWide p ≡ BadNumber at) ⊎ ((TooWide p ≡ TooWide at) ⊎ (TooWide p ≡ OutOfMemory))
+    → (◌≡◌ {A = Result T NumberFault} (Err (TooWide p)) (Err (TooWide at)) → SaysTooWide w) → SaysTooWide w
 wide_arm p at w (inl e) wide = absurd (cc)
 wide_arm p at w (inr (inl e)) wide = wide (ap Err e)
 wide_arm p at w (inr (inr e)) wide = absurd (cc)
 
-pub ok_arm : {T : Type 0} (x : T) (at : Place) (w : Option Written) → (SaysTooWide w → ◌≡◌ {A = Result T NumberFault} (Ok x) (Err (TooWide at))) → SaysTooWide w → ⊥
+pub ok_arm : {T : Type 0} (x : T) (at : Place) (w : Option Written)
+    → (SaysTooWide w → ◌≡◌ {A = Result T NumberFault} (Ok x) (Err (TooWide at))) → SaysTooWide w → ⊥
 ok_arm x at w wide h = let e = wide h in cc
 
 pub fewer_digits : (n length most : ℕ) → n < 2 ^ (4 * length) → length ≤ most → n < 2 ^ (4 * most)
@@ -88,11 +95,14 @@ fewer_digits n length most small few =
 
 -- ---- loops over lists
 
-pub none_left : {T : Type 0} (p : T → Bool) (xs : List T) (i : ℕ) → length xs ≤ i → list_any p (drop i xs) ≡ list_any p xs → false ≡ list_any p xs
+pub none_left : {T : Type 0} (p : T → Bool) (xs : List T) (i : ℕ) → length xs ≤ i
+    → list_any p (drop i xs) ≡ list_any p xs → false ≡ list_any p xs
 none_left p xs i past so_far = sym (ap (list_any p) (drop_of_length-le xs past)) ∙ so_far
 
-pub none_after : {T : Type 0} (p : T → Bool) (xs : List T) (i : ℕ) (all : Bool) → length xs ≤ i → list_any p (drop i xs) ≡ all → false ≡ all
+pub none_after : {T : Type 0} (p : T → Bool) (xs : List T) (i : ℕ) (all : Bool) → length xs ≤ i
+    → list_any p (drop i xs) ≡ all → false ≡ all
 none_after p xs i all past so_far = sym (ap (list_any p) (drop_of_length-le xs past)) ∙ so_far
 
-pub none_past : {T : Type 0} (p : T → Bool) (xs : List T) (i : ℕ) → length xs ≤ i → false ≡ list_any p (drop i xs)
+pub none_past : {T : Type 0} (p : T → Bool) (xs : List T) (i : ℕ)
+    → length xs ≤ i → false ≡ list_any p (drop i xs)
 none_past p xs i past = sym (ap (list_any p) (drop_of_length-le xs past))

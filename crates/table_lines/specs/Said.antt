@@ -67,7 +67,8 @@ if_there (Some a) next = next a
 
 abbrev pub cond_of : Bool → List ℕ → List ℕ → List ℕ → Option SaidCond
 cond_of old name equals n =
-    cond (is_name name && is (codes "=") equals) (if_there (number n) (λ w. Some (record { old = old; name = name; number = w }))) None
+    cond (is_name name && is (codes "=") equals)
+    (if_there (number n) (λ w. Some (record { old = old; name = name; number = w }))) None
 
 abbrev pub with_rest : Words → Option SaidCond → Option (SaidCond × Words)
 with_rest ws None = None
@@ -84,7 +85,8 @@ front_cond change [] = None
 front_cond change (a ∷ []) = None
 front_cond change (a ∷ b ∷ []) = None
 front_cond change (a ∷ b ∷ c ∷ ws) =
-    cond (change && (is (codes "old") a && not (is (codes "=") b))) (old_cond b c ws) (with_rest ws (cond_of false a b c))
+    cond (change && (is (codes "old") a && not (is (codes "=") b)))
+    (old_cond b c ws) (with_rest ws (cond_of false a b c))
 
 -- ---- assignments
 
@@ -115,7 +117,8 @@ entry_amount (ToEntry x) (Some e) = None
 -- an amount of one word: a name, a number or an entry
 abbrev pub amount : Bool → SaidSlot → List ℕ → Option SaidAmount
 amount second slot text =
-    cond (is_name text) (Some (Copy text)) (or_else (number_amount (plain text)) (entry_amount slot (entry_in second text)))
+    cond (is_name text) (Some (Copy text))
+    (or_else (number_amount (plain text)) (entry_amount slot (entry_in second text)))
 
 -- a sum or a difference
 abbrev pub plus_minus : List ℕ → List ℕ → Option ℕ → Option SaidAmount
@@ -136,7 +139,8 @@ set_words second (a ∷ e ∷ b ∷ []) =
     cond (is (codes "=") e) (if_there (slot second a) (λ s. set_of s (amount second s b))) None
 set_words second (a ∷ e ∷ b ∷ sign ∷ []) = None
 set_words second (a ∷ e ∷ b ∷ sign ∷ n ∷ []) =
-    cond (is (codes "=") e && is_name b) (if_there (slot second a) (λ s. set_of s (plus_minus b sign (decimal n)))) None
+    cond (is (codes "=") e && is_name b)
+    (if_there (slot second a) (λ s. set_of s (plus_minus b sign (decimal n)))) None
 set_words second (a ∷ e ∷ b ∷ sign ∷ n ∷ u ∷ us) = None
 
 -- ---- rows
@@ -172,17 +176,20 @@ more_conds c (Some row) = Some (record row { conds = c ∷ row.conds })
 -- after a condition stands the next part, or `do` and the first assignment
 abbrev pub after_cond : Bool → SaidCond × Words → List Words → Option SaidRow → Option SaidRow
 after_cond second (c, []) ps rest = more_conds c rest
-after_cond second (c, w ∷ ws) ps rest = cond (is (codes "do") w) (more_conds c (row_of (sets second (ws ∷ ps)))) None
+after_cond second (c, w ∷ ws) ps rest =
+    cond (is (codes "do") w) (more_conds c (row_of (sets second (ws ∷ ps)))) None
 
 abbrev pub conds_sets : Bool → Bool → List Words → Option SaidRow
 conds_sets second change [] = None
-conds_sets second change (p ∷ ps) = if_there (front_cond change p) (λ c. after_cond second c ps (conds_sets second change ps))
+conds_sets second change (p ∷ ps) =
+    if_there (front_cond change p) (λ c. after_cond second c ps (conds_sets second change ps))
 
 -- `do` and assignments, or `when`, conditions, `do` and assignments
 abbrev pub row : Bool → Bool → Words → Option SaidRow
 row second change [] = None
 row second change (w ∷ ws) =
-    cond (is (codes "do") w) (row_of (sets second (parts ws))) (cond (is (codes "when") w) (conds_sets second change (parts ws)) None)
+    cond (is (codes "do") w) (row_of (sets second (parts ws)))
+    (cond (is (codes "when") w) (conds_sets second change (parts ws)) None)
 
 -- ---- lines
 
@@ -199,29 +206,34 @@ abbrev pub starts : Words → Option Starts
 starts [] = starts_of (Some 0) None
 starts (w ∷ []) = None
 starts (w ∷ n ∷ []) =
-    cond (is (codes "init") w) (starts_of (plain n) None) (cond (is (codes "reset") w) (with_reset (Some 0) (plain n)) None)
+    cond (is (codes "init") w) (starts_of (plain n) None)
+    (cond (is (codes "reset") w) (with_reset (Some 0) (plain n)) None)
 starts (w ∷ n ∷ v ∷ []) = None
-starts (w ∷ n ∷ v ∷ m ∷ []) = cond (is (codes "init") w && is (codes "reset") v) (with_reset (plain n) (plain m)) None
+starts (w ∷ n ∷ v ∷ m ∷ []) =
+    cond (is (codes "init") w && is (codes "reset") v) (with_reset (plain n) (plain m)) None
 starts (w ∷ n ∷ v ∷ m ∷ u ∷ us) = None
 
 abbrev pub input_line : Words → Option SaidLine
 input_line [] = None
 input_line (name ∷ []) = None
-input_line (name ∷ width ∷ []) = cond (is_name name) (if_there (decimal width) (λ w. Some (Input name w))) None
+input_line (name ∷ width ∷ []) =
+    cond (is_name name) (if_there (decimal width) (λ w. Some (Input name w))) None
 input_line (name ∷ width ∷ u ∷ us) = None
 
 abbrev pub word_line : Words → Option SaidLine
 word_line [] = None
 word_line (name ∷ []) = None
 word_line (name ∷ width ∷ ws) =
-    cond (is_name name) (if_there (decimal width) (λ w. if_there (starts ws) (λ s. Some (Word name w s)))) None
+    cond (is_name name)
+    (if_there (decimal width) (λ w. if_there (starts ws) (λ s. Some (Word name w s)))) None
 
 abbrev pub memory_line : Words → Option SaidLine
 memory_line [] = None
 memory_line (name ∷ []) = None
 memory_line (name ∷ depth ∷ []) = None
 memory_line (name ∷ depth ∷ width ∷ ws) =
-    cond (is_name name) (if_there (decimal depth) (λ d. if_there (decimal width) (λ w. if_there (starts ws) (λ s. Some (Memory name d w s))))) None
+    cond (is_name name) (if_there (decimal depth)
+    (λ d. if_there (decimal width) (λ w. if_there (starts ws) (λ s. Some (Memory name d w s))))) None
 
 abbrev pub output_line : Words → Option SaidLine
 output_line [] = None

@@ -8,17 +8,24 @@ use Rattle.table_lines.specs.declared.said.SaidEntry.{SaidEntry as RustEntry}
 use Rattle.table_lines.specs.declared.said.SaidSlot.{SaidSlot as RustSlot}
 use Rattle.table_lines.specs.declared.said.SaidSlot.TheVariants.{Word as SlotWord, Entry as SlotEntry}
 use Rattle.table_lines.specs.declared.said.SaidAmount.{SaidAmount as RustAmount}
-use Rattle.table_lines.specs.declared.said.SaidAmount.TheVariants.{Number as AmountNumber, Copy as AmountCopy, Plus as AmountPlus, Minus as AmountMinus, Entry as AmountEntry}
+use Rattle.table_lines.specs.declared.said.SaidAmount.TheVariants.{Number as AmountNumber, Copy as AmountCopy}
+use Rattle.table_lines.specs.declared.said.SaidAmount.TheVariants.{Plus as AmountPlus, Minus as AmountMinus}
+use Rattle.table_lines.specs.declared.said.SaidAmount.TheVariants.{Entry as AmountEntry}
 use Rattle.table_lines.specs.declared.said.SaidSet.{SaidSet as RustSet}
 use Rattle.table_lines.specs.declared.said.SaidRow.{SaidRow as RustRow}
 use Rattle.table_lines.specs.declared.said.StartNumbers.{StartNumbers as RustStarts}
 use Rattle.table_lines.specs.declared.said.Slice.{Slice as RustSlice}
 use Rattle.table_lines.specs.declared.said.SaidLine.{SaidLine as RustLine}
-use Rattle.table_lines.specs.declared.said.SaidLine.TheVariants.{Input as LineInput, Word as LineWord, Memory as LineMemory, Output as LineOutput, Change as LineChange, Run as LineRun, End as LineEnd}
+use Rattle.table_lines.specs.declared.said.SaidLine.TheVariants.{Input as LineInput, Word as LineWord}
+use Rattle.table_lines.specs.declared.said.SaidLine.TheVariants.{Memory as LineMemory, Output as LineOutput}
+use Rattle.table_lines.specs.declared.said.SaidLine.TheVariants.{Change as LineChange, Run as LineRun}
+use Rattle.table_lines.specs.declared.said.SaidLine.TheVariants.{End as LineEnd}
 use Rattle.table_lines.specs.declared.said.FrontCond.{FrontCond}
 use Rattle.table_lines.specs.Reading.{texts, plain_value}
 use Rattle.table_lines.specs.Words.{Slice}
-use Rattle.table_lines.specs.Said.{SaidCond, SaidEntry, SaidSlot, ToWord, ToEntry, SaidAmount, Number, Copy, Plus, Minus, FromEntry, SaidSet, SaidRow, Starts, SaidLine, Input, Word, Memory, Output, Change, Run, End}
+use Rattle.table_lines.specs.Said.{SaidCond, SaidEntry, SaidSlot, ToWord, ToEntry, SaidAmount, Number, Copy}
+use Rattle.table_lines.specs.Said.{Plus, Minus, FromEntry, SaidSet, SaidRow, Starts, SaidLine, Input, Word}
+use Rattle.table_lines.specs.Said.{Memory, Output, Change, Run, End}
 
 abbrev pub seen_bracketed : InBrackets → List ℕ × List ℕ
 seen_bracketed b = (b.name.now, b.inside.now)

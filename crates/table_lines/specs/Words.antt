@@ -1,5 +1,6 @@
 -- What a word of a line says: a name, a path, a number, an opcode, an entry of a memory or a slice.
-use Rattle.std.specs.Prelude.{ℕ, ◌+◌, ◌*◌, ◌^◌, nat_le, nat_lt, Bool, false, not, ◌&&◌, ◌||◌, cond, List, [], ◌∷◌, length, map, drop, Option, Some, None}
+use Rattle.std.specs.Prelude.{ℕ, ◌+◌, ◌*◌, ◌^◌, nat_le, nat_lt, Bool, false, not, ◌&&◌, ◌||◌, cond, List, []}
+use Rattle.std.specs.Prelude.{◌∷◌, length, map, drop, Option, Some, None}
 use Rattle.std.specs.Option.{is_some}
 use Rattle.std.specs.Char.{is_ascii_hexdigit}
 use Rattle.std.specs.List.{list_all, list_any}
@@ -74,7 +75,8 @@ hex_from n (d ∷ ds) = hex_from (16 * n + hex_value d) ds
 -- the number of so many hexadecimal digits, in either case
 unfoldable pub hex : ℕ → ℕ → List ℕ → Option ℕ
 hex least most text =
-    cond (nat_le least (length text) && (nat_le (length text) most && list_all is_ascii_hexdigit text)) (Some (hex_from 0 text)) None
+    cond (nat_le least (length text) && (nat_le (length text) most && list_all is_ascii_hexdigit text))
+    (Some (hex_from 0 text)) None
 
 -- ---- brackets
 

@@ -1,7 +1,8 @@
 // What each line of a block says, whatever its names mean.
 ghost use Rattle.std.specs.Prelude.{◌≡◌, IfOk, option_map};
 ghost use Rattle.table_lines.specs.Reading.{texts};
-ghost use Rattle.table_lines.specs.Said.{change_line, run_line, line_by, input_line, word_line, memory_line, output_line, end_line, line};
+ghost use Rattle.table_lines.specs.Said.{change_line, run_line, line_by, input_line, word_line, memory_line};
+ghost use Rattle.table_lines.specs.Said.{output_line, end_line, line};
 ghost use Rattle.table_lines.specs.SeenSaid.{seen_row, seen_said};
 
 use crate::said::{SaidLine, SaidRow, row, slice_words, starts};

@@ -62,8 +62,10 @@ pub struct Cut<'a> {
 
 /// The text before the first byte of a kind.
 pub fn cut_at<'a>(text: &'a [u8], at: u8) -> Cut<'a>
-    ensures pieces { MatchOption result.after (split at text.now ≡ result.front.now ∷ []) (λ rest. split at text.now ≡ result.front.now ∷ split at rest.now) }
-    ensures whole { MatchOption result.after (result.front.now ≡ text.now) (λ rest. length result.front.now + 1 + length rest.now ≡ length text.now) }
+    ensures pieces { MatchOption result.after (split at text.now ≡ result.front.now ∷ [])
+        (λ rest. split at text.now ≡ result.front.now ∷ split at rest.now) }
+    ensures whole { MatchOption result.after (result.front.now ≡ text.now)
+        (λ rest. length result.front.now + 1 + length rest.now ≡ length text.now) }
 {
     let (front, after) = text.split_at(run_len(text, Class::Until(at)));
     if after.is_empty() {
@@ -110,7 +112,8 @@ fn word_len(text: &[u8]) -> usize
 
 /// The first word of a text, if there is one.
 pub(crate) fn next_word<'a>(text: &'a [u8]) -> Option<Piece<'a>>
-    ensures value { MatchOption result (words text.now ≡ []) (λ p. words text.now ≡ p.word.now ∷ words p.rest.now) }
+    ensures value { MatchOption result (words text.now ≡ [])
+        (λ p. words text.now ≡ p.word.now ∷ words p.rest.now) }
     ensures shorter { IfSome result (λ p. length p.rest.now < length text.now) }
 {
     let text = after_blanks(text);

@@ -1,5 +1,5 @@
-//! Lines and words of the files that describe a device and its instruments, and what the lines of a table file say,
-//! whatever their names mean.
+//! Lines and words of the files that describe a device and its instruments, and what the lines of a table
+//! file say, whatever their names mean.
 #![tactic(auto)]
 
 mod block_lines;

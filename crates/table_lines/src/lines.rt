@@ -1,5 +1,6 @@
 // The lines of a text that have words.
-ghost use Rattle.std.specs.Prelude.{◌≡◌, ◌+◌, ◌^◌, ◌<◌, ◌≤◌, [], ◌∷◌, length, MatchOption, IfSome, IfOk, suc, ℕ};
+ghost use Rattle.std.specs.Prelude.{◌≡◌, ◌+◌, ◌^◌, ◌<◌, ◌≤◌, [], ◌∷◌, length, MatchOption, IfSome, IfOk, suc};
+ghost use Rattle.std.specs.Prelude.{ℕ};
 ghost use Rattle.table_lines.specs.Lines.{shown, words, line_place, line_of, unless_empty, end_of, lines};
 ghost use Rattle.table_lines.specs.Reading.{lines_left, seen_line, texts};
 
@@ -43,7 +44,8 @@ fn first_place(number: u32, text: &[u8]) -> Place
 /// The first line of a text that has words, if there is one; `number` is the number of the text's first line.
 pub fn next_line<'a>(text: &'a [u8], number: u32) -> Option<Line<'a>>
     requires { number + length text.now + 1 < 2 ^ 32 }
-    ensures value { MatchOption result (lines_left number text.now ≡ []) (λ l. lines_left number text.now ≡ seen_line l.at l.text.now ∷ lines_left l.number l.rest.now) }
+    ensures value { MatchOption result (lines_left number text.now ≡ [])
+        (λ l. lines_left number text.now ≡ seen_line l.at l.text.now ∷ lines_left l.number l.rest.now) }
     ensures shorter { IfSome result (λ l. l.number + length l.rest.now ≤ number + length text.now) }
     ensures less { IfSome result (λ l. length l.rest.now < length text.now) }
 {
@@ -70,7 +72,8 @@ pub fn next_line<'a>(text: &'a [u8], number: u32) -> Option<Line<'a>>
 /// The first line of a text, and the text after the line feed that ends it.
 fn cut_line<'a>(text: &'a [u8]) -> (&'a [u8], &'a [u8])
     requires { 1 ≤ length text.now }
-    ensures lines { (n : ℕ) → lines_left n text.now ≡ unless_empty (line_of n result.0.now) (lines_left (suc n) result.1.now) }
+    ensures lines { (n : ℕ)
+        → lines_left n text.now ≡ unless_empty (line_of n result.0.now) (lines_left (suc n) result.1.now) }
     ensures shorter { length result.1.now < length text.now }
     ensures front { length result.0.now ≤ length text.now }
 {

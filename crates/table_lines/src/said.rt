@@ -1,14 +1,20 @@
 // What one line of a table says, whatever its names mean.
-ghost use Rattle.std.specs.Prelude.{◌≡◌, ◌+◌, ◌<◌, ◌&&◌, [], ◌∷◌, map, IfOk, IfSome, option_map, Ok, None, Some};
+ghost use Rattle.std.specs.Prelude.{◌≡◌, ◌+◌, ◌<◌, ◌&&◌, [], ◌∷◌, map, IfOk, IfSome, option_map, Ok, None};
+ghost use Rattle.std.specs.Prelude.{Some};
 ghost use Rattle.table_lines.specs.Reading.{texts, plain_value};
 ghost use Rattle.ij_text.specs.Words.{is_name};
-ghost use Rattle.table_lines.specs.Words.{named, number, decimal, plain, closed, bracketed, entry, part_of, two_decimals, slice, path};
+ghost use Rattle.table_lines.specs.Words.{named, number, decimal, plain, closed, bracketed, entry, part_of};
+ghost use Rattle.table_lines.specs.Words.{two_decimals, slice, path};
 ghost use Rattle.std.specs.List.{list_all};
 ghost use Rattle.ij_text.specs.Parts.{split};
 ghost use Rattle.ij_text.specs.Options.{both};
-ghost use Rattle.table_lines.specs.Said.{cond_of, old_cond, starts_of, with_reset, front_cond, entry_of, entry_in, slot, amount, entry_amount, plus_minus, set_words, parts, sets, conds_sets, row, row_of, starts, instrument, instrument_text, version_of, version};
+ghost use Rattle.table_lines.specs.Said.{cond_of, old_cond, starts_of, with_reset, front_cond, entry_of};
+ghost use Rattle.table_lines.specs.Said.{entry_in, slot, amount, entry_amount, plus_minus, set_words, parts};
+ghost use Rattle.table_lines.specs.Said.{sets, conds_sets, row, row_of, starts, instrument, instrument_text};
+ghost use Rattle.table_lines.specs.Said.{version_of, version};
 ghost use Rattle.table_lines.specs.Parted.{part_list, after_parts, with_conds, do_sets};
-ghost use Rattle.table_lines.specs.SeenSaid.{seen_front, seen_bracketed, seen_entry, seen_slot, seen_amount, seen_cond, seen_set, seen_row, seen_starts, seen_slice};
+ghost use Rattle.table_lines.specs.SeenSaid.{seen_front, seen_bracketed, seen_entry, seen_slot, seen_amount};
+ghost use Rattle.table_lines.specs.SeenSaid.{seen_cond, seen_set, seen_row, seen_starts, seen_slice};
 
 use crate::bytes::cut_at;
 use crate::parts::{Part, next_part};
@@ -202,7 +208,8 @@ fn slot<'a>(second: bool, text: &'a [u8]) -> Option<SaidSlot<'a>>
 }
 
 fn entry_amount<'a>(slot: SaidSlot, entry: Option<SaidEntry<'a>>) -> Option<SaidAmount<'a>>
-    ensures { option_map seen_amount result ≡ entry_amount (seen_slot slot.entry) (option_map seen_entry entry.entry) }
+    ensures { option_map seen_amount result
+        ≡ entry_amount (seen_slot slot.entry) (option_map seen_entry entry.entry) }
 {
     let entry = entry?;
     match slot {
@@ -273,7 +280,8 @@ fn long_set<'a>(
     sign: &[u8],
     n: &[u8],
 ) -> Result<Option<SaidSet<'a>>, OutOfMemory>
-    ensures { IfOk result (λ x. option_map seen_set x ≡ set_words second (a.now ∷ e.now ∷ b.now ∷ sign.now ∷ n.now ∷ [])) }
+    ensures { IfOk result (λ x. option_map seen_set x
+        ≡ set_words second (a.now ∷ e.now ∷ b.now ∷ sign.now ∷ n.now ∷ [])) }
 {
     if !(is(e, b"=") && is_name(b)) {
         return Ok(None);
@@ -304,14 +312,16 @@ fn set_words<'a>(
 }
 
 fn starts_of(init: Option<Number>, reset: Option<Number>) -> Option<StartNumbers>
-    ensures { option_map seen_starts result ≡ starts_of (option_map plain_value init) (option_map plain_value reset) }
+    ensures { option_map seen_starts result
+        ≡ starts_of (option_map plain_value init) (option_map plain_value reset) }
 {
     let init = init?;
     Some(StartNumbers { init, reset })
 }
 
 fn with_reset(init: Option<Number>, reset: Option<Number>) -> Option<StartNumbers>
-    ensures { option_map seen_starts result ≡ with_reset (option_map plain_value init) (option_map plain_value reset) }
+    ensures { option_map seen_starts result
+        ≡ with_reset (option_map plain_value init) (option_map plain_value reset) }
 {
     let reset = reset?;
     starts_of(init, Some(reset))
@@ -366,7 +376,8 @@ fn sets<'w, 'a>(
     second: bool,
     first: Part<'w, 'a>,
 ) -> Result<Option<Vec<SaidSet<'a>>>, OutOfMemory>
-    ensures { IfOk result (λ o. option_map (λ xs. map seen_set xs.items) o ≡ sets second (part_list first.entry)) }
+    ensures { IfOk result (λ o. option_map (λ xs. map seen_set xs.items) o
+        ≡ sets second (part_list first.entry)) }
 {
     let mut all = Vec::new(alloc);
     let mut part = first;
@@ -471,7 +482,8 @@ fn bounds<'a>(word: &'a [u8], l: Option<u128>, r: Option<u128>) -> Option<Slice<
 }
 
 fn bounded<'a>(alloc: Global, found: InBrackets<'a>) -> Result<Option<Slice<'a>>, OutOfMemory>
-    ensures { IfOk result (λ s. option_map seen_slice s ≡ part_of found.entry.name.now (two_decimals (split 58 found.entry.inside.now))) }
+    ensures { IfOk result (λ s. option_map seen_slice s
+        ≡ part_of found.entry.name.now (two_decimals (split 58 found.entry.inside.now))) }
 {
     let cut = cut_at(found.inside, b':');
     let Some(after) = cut.after else {
@@ -515,7 +527,8 @@ fn row_with<'w, 'a>(
     conds: Vec<SaidCond<'a>>,
     first: Part<'w, 'a>,
 ) -> Result<Option<SaidRow<'a>>, OutOfMemory>
-    ensures { IfOk result (λ o. option_map seen_row o ≡ with_conds (map seen_cond conds.entry.items) (row_of (sets second (part_list first.entry)))) }
+    ensures { IfOk result (λ o. option_map seen_row o
+        ≡ with_conds (map seen_cond conds.entry.items) (row_of (sets second (part_list first.entry)))) }
 {
     match sets(alloc, second, first)? {
         Some(sets) => Ok(Some(SaidRow { conds, sets })),
@@ -531,7 +544,8 @@ fn do_sets<'w, 'a>(
     words: &'w [&'a [u8]],
     after: Option<&'w [&'a [u8]]>,
 ) -> Result<Option<SaidRow<'a>>, OutOfMemory>
-    ensures { IfOk result (λ o. option_map seen_row o ≡ do_sets second (map seen_cond conds.entry.items) (texts words.now) (after_parts after.entry)) }
+    ensures { IfOk result (λ o. option_map seen_row o
+        ≡ do_sets second (map seen_cond conds.entry.items) (texts words.now) (after_parts after.entry)) }
 {
     match words {
         [w, front @ ..] => {
@@ -667,7 +681,8 @@ pub fn instrument<'a>(
     alloc: Global,
     words: &[&'a [u8]],
 ) -> Result<Option<InstrumentPath<'a>>, OutOfMemory>
-    ensures value { IfOk result (λ p. option_map (λ path. texts path.names.items) p ≡ instrument (texts words.now)) }
+    ensures value { IfOk result
+        (λ p. option_map (λ path. texts path.names.items) p ≡ instrument (texts words.now)) }
     ensures text { IfOk result (λ p. IfSome p (λ path. texts path.names.items ≡ split 46 path.text.now)) }
 {
     let Some(text) = instrument_words(words) else {

@@ -1,11 +1,14 @@
 // What the words of lines say.
-ghost use Rattle.std.specs.Prelude.{◌≡◌, ◌+◌, ◌*◌, ◌^◌, ◌<◌, ◌≤◌, length, IfOk, IfSome, IsTrue, option_map, is_some, not, Some, true, nat_le, map, drop, ◌&&◌, ◌||◌, ◌-◌, if◌then◌else◌};
+ghost use Rattle.std.specs.Prelude.{◌≡◌, ◌+◌, ◌*◌, ◌^◌, ◌<◌, ◌≤◌, length, IfOk, IfSome, IsTrue, option_map};
+ghost use Rattle.std.specs.Prelude.{is_some, not, Some, true, nat_le, map, drop, ◌&&◌, ◌||◌, ◌-◌};
+ghost use Rattle.std.specs.Prelude.{if◌then◌else◌};
 ghost use Rattle.std.specs.Str.{bytes_eq};
 ghost use Rattle.std.specs.List.{list_all, list_any};
 ghost use Rattle.std.specs.Char.{is_ascii_hexdigit};
 ghost use Rattle.ij_bits.specs.BitLists.{number_of};
 ghost use Rattle.ij_text.specs.Numbers.{InDecimal, InBits, bits_in, seen, tern_bits, hex_value};
-ghost use Rattle.table_lines.specs.Words.{care_in, number, decimal, in_decimal, is_open, is_one, is_wide, value_in, without_x, plain, hex, hex_from};
+ghost use Rattle.table_lines.specs.Words.{care_in, number, decimal, in_decimal, is_open, is_one, is_wide};
+ghost use Rattle.table_lines.specs.Words.{value_in, without_x, plain, hex, hex_from};
 ghost use Rattle.table_lines.specs.Reading.{plain_value};
 
 use ij_bits::{OutOfMemory, Tern};
@@ -297,7 +300,8 @@ fn hex_number(text: &[u8]) -> u64
 
 /// Whether a word is `least` to `most` hexadecimal digits.
 fn is_hex(text: &[u8], least: usize, most: usize) -> bool
-    ensures value { result ≡ (nat_le least (length text.now) && (nat_le (length text.now) most && list_all is_ascii_hexdigit text.now)) }
+    ensures value { result ≡ (nat_le least (length text.now) &&
+        (nat_le (length text.now) most && list_all is_ascii_hexdigit text.now)) }
     ensures digits { IsTrue result → list_all is_ascii_hexdigit text.now ≡ true }
     ensures few { IsTrue result → length text.now ≤ most }
 {

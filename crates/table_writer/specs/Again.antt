@@ -31,9 +31,11 @@ without_place t = (t.path, t.model)
 abbrev pub AreReadAgain : Type 0
 AreReadAgain =
     (ts : List SeenTable) → All IsTable ts → AreDifferent (map (λ t. t.path) ts)
-    → (us : List SeenTable) × (tables (tables_text ts) ≡ Ok us) × (map without_place us ≡ map without_place ts)
+    → (us : List SeenTable) × (tables (tables_text ts) ≡ Ok us)
+    × (map without_place us ≡ map without_place ts)
 
 -- what a text says of its tables, written and read
 abbrev pub AreWrittenBack : Type 0
 AreWrittenBack =
-    (text : List ℕ) (ts : List SeenTable) → tables text ≡ Ok ts → (us : List SeenTable) × (tables (tables_text ts) ≡ Ok us) × (map without_place us ≡ map without_place ts)
+    (text : List ℕ) (ts : List SeenTable) → tables text ≡ Ok ts → (us : List SeenTable)
+    × (tables (tables_text ts) ≡ Ok us) × (map without_place us ≡ map without_place ts)

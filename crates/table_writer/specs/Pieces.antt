@@ -34,11 +34,13 @@ next_name name = codes "." ++ name
 
 -- lines without their end
 abbrev pub word_front : SeenWord → List ℕ
-word_front d = codes "word " ++ (d.name ++ (codes " " ++ (decimal d.width ++ (codes " init " ++ decimal d.init))))
+word_front d = codes "word "
+    ++ (d.name ++ (codes " " ++ (decimal d.width ++ (codes " init " ++ decimal d.init))))
 
 abbrev pub memory_front : SeenMemory → List ℕ
 memory_front d =
-    codes "mem " ++ (d.name ++ (codes " " ++ (decimal d.depth ++ (codes " " ++ (decimal d.width ++ (codes " init " ++ decimal d.init))))))
+    codes "mem " ++ (d.name ++ (codes " "
+    ++ (decimal d.depth ++ (codes " " ++ (decimal d.width ++ (codes " init " ++ decimal d.init))))))
 
 abbrev pub out_front : SeenModel → SeenOut → List ℕ
 out_front m d = codes "out " ++ (d.name ++ (codes " = " ++ word_name m d.word))

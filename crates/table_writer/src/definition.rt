@@ -5,7 +5,8 @@ ghost use Rattle.ij_io.specs.Bytes.{Adds, AddsPart};
 ghost use Rattle.ij_io.specs.Causes.{HasCause};
 ghost use Rattle.instruments.specs.Models.{IsModel};
 ghost use Rattle.instruments.specs.Seen.{seen_word, seen_memory, seen_port, seen_out, seen_row, seen_model};
-ghost use Rattle.bench_file.specs.Written.{reset_text, input_text, word_text, memory_text, bounds_text, out_text, row_text};
+ghost use Rattle.bench_file.specs.Written.{reset_text, input_text, word_text, memory_text, bounds_text};
+ghost use Rattle.bench_file.specs.Written.{out_text, row_text};
 ghost use Rattle.table_writer.specs.Pieces.{word_front, memory_front, out_front};
 
 use crate::names::{word_name, word_width};
@@ -33,8 +34,10 @@ fn put_input<K: Sink>(d: &PortDef, k: &mut K) -> Result<(), StoreFault>
 }
 
 fn put_inputs<K: Sink>(ins: &[PortDef], k: &mut K) -> Result<(), StoreFault>
-    ensures whole { OnOk result (Adds (K.taken k.old) (K.taken k.new) (flat_map (λ d. input_text (seen_port d)) ins.now)) }
-    ensures part { OnErr result (AddsPart (K.taken k.old) (K.taken k.new) (flat_map (λ d. input_text (seen_port d)) ins.now)) }
+    ensures whole { OnOk result
+        (Adds (K.taken k.old) (K.taken k.new) (flat_map (λ d. input_text (seen_port d)) ins.now)) }
+    ensures part { OnErr result
+        (AddsPart (K.taken k.old) (K.taken k.new) (flat_map (λ d. input_text (seen_port d)) ins.now)) }
     ensures cause { HasCause (K.faults k.old) (K.faults k.new) result StoreFault.Failed }
 {
     for d in ins {
@@ -87,8 +90,10 @@ fn put_word<K: Sink>(d: &WordDef, k: &mut K) -> Result<(), StoreFault>
 }
 
 fn put_all_words<K: Sink>(words: &[WordDef], k: &mut K) -> Result<(), StoreFault>
-    ensures whole { OnOk result (Adds (K.taken k.old) (K.taken k.new) (flat_map (λ d. word_text (seen_word d)) words.now)) }
-    ensures part { OnErr result (AddsPart (K.taken k.old) (K.taken k.new) (flat_map (λ d. word_text (seen_word d)) words.now)) }
+    ensures whole { OnOk result
+        (Adds (K.taken k.old) (K.taken k.new) (flat_map (λ d. word_text (seen_word d)) words.now)) }
+    ensures part { OnErr result
+        (AddsPart (K.taken k.old) (K.taken k.new) (flat_map (λ d. word_text (seen_word d)) words.now)) }
     ensures cause { HasCause (K.faults k.old) (K.faults k.new) result StoreFault.Failed }
 {
     for d in words {
@@ -100,7 +105,8 @@ fn put_all_words<K: Sink>(words: &[WordDef], k: &mut K) -> Result<(), StoreFault
 #[tactic(auto, unfolding(ij_io::specs::Words::words_text))]
 fn put_memory_front<K: Sink>(d: &MemDef, k: &mut K) -> Result<(), StoreFault>
     ensures whole { OnOk result (Adds (K.taken k.old) (K.taken k.new) (memory_front (seen_memory d.now))) }
-    ensures part { OnErr result (AddsPart (K.taken k.old) (K.taken k.new) (memory_front (seen_memory d.now))) }
+    ensures part { OnErr result
+        (AddsPart (K.taken k.old) (K.taken k.new) (memory_front (seen_memory d.now))) }
     ensures cause { HasCause (K.faults k.old) (K.faults k.new) result StoreFault.Failed }
 {
     put_words(
@@ -119,8 +125,10 @@ fn put_memory_front<K: Sink>(d: &MemDef, k: &mut K) -> Result<(), StoreFault>
 }
 
 fn put_memory_line<K: Sink>(d: &MemDef, k: &mut K) -> Result<(), StoreFault>
-    ensures whole { OnOk result (Adds (K.taken k.old) (K.taken k.new) (memory_text (Some (seen_memory d.now)))) }
-    ensures part { OnErr result (AddsPart (K.taken k.old) (K.taken k.new) (memory_text (Some (seen_memory d.now)))) }
+    ensures whole { OnOk result
+        (Adds (K.taken k.old) (K.taken k.new) (memory_text (Some (seen_memory d.now)))) }
+    ensures part { OnErr result
+        (AddsPart (K.taken k.old) (K.taken k.new) (memory_text (Some (seen_memory d.now)))) }
     ensures cause { HasCause (K.faults k.old) (K.faults k.new) result StoreFault.Failed }
 {
     put_memory_front(d, k)?;
@@ -131,8 +139,10 @@ fn put_memory_line<K: Sink>(d: &MemDef, k: &mut K) -> Result<(), StoreFault>
 
 /// Writes the memory, if there is one.
 pub(crate) fn put_memory<K: Sink>(mem: &Option<MemDef>, k: &mut K) -> Result<(), StoreFault>
-    ensures whole { OnOk result (Adds (K.taken k.old) (K.taken k.new) (memory_text (option_map seen_memory mem.now))) }
-    ensures part { OnErr result (AddsPart (K.taken k.old) (K.taken k.new) (memory_text (option_map seen_memory mem.now))) }
+    ensures whole { OnOk result
+        (Adds (K.taken k.old) (K.taken k.new) (memory_text (option_map seen_memory mem.now))) }
+    ensures part { OnErr result
+        (AddsPart (K.taken k.old) (K.taken k.new) (memory_text (option_map seen_memory mem.now))) }
     ensures cause { HasCause (K.faults k.old) (K.faults k.new) result StoreFault.Failed }
 {
     match mem {
@@ -165,8 +175,10 @@ fn put_bounds<K: Sink>(width: u32, left: u32, right: u32, k: &mut K) -> Result<(
 
 #[tactic(auto, unfolding(ij_io::specs::Words::words_text))]
 fn put_out_front<'x, K: Sink>(m: &'x Model, d: &'x OutDef, k: &mut K) -> Result<(), StoreFault>
-    ensures whole { OnOk result (Adds (K.taken k.old) (K.taken k.new) (out_front (seen_model m.now) (seen_out d.now))) }
-    ensures part { OnErr result (AddsPart (K.taken k.old) (K.taken k.new) (out_front (seen_model m.now) (seen_out d.now))) }
+    ensures whole { OnOk result
+        (Adds (K.taken k.old) (K.taken k.new) (out_front (seen_model m.now) (seen_out d.now))) }
+    ensures part { OnErr result
+        (AddsPart (K.taken k.old) (K.taken k.new) (out_front (seen_model m.now) (seen_out d.now))) }
     ensures cause { HasCause (K.faults k.old) (K.faults k.new) result StoreFault.Failed }
 {
     put_words(
@@ -182,8 +194,10 @@ fn put_out_front<'x, K: Sink>(m: &'x Model, d: &'x OutDef, k: &mut K) -> Result<
 
 fn put_out<K: Sink>(m: &Model, d: &OutDef, k: &mut K) -> Result<(), StoreFault>
     requires { IsModel (seen_model m.now) }
-    ensures whole { OnOk result (Adds (K.taken k.old) (K.taken k.new) (out_text (seen_model m.now) (seen_out d.now))) }
-    ensures part { OnErr result (AddsPart (K.taken k.old) (K.taken k.new) (out_text (seen_model m.now) (seen_out d.now))) }
+    ensures whole { OnOk result
+        (Adds (K.taken k.old) (K.taken k.new) (out_text (seen_model m.now) (seen_out d.now))) }
+    ensures part { OnErr result
+        (AddsPart (K.taken k.old) (K.taken k.new) (out_text (seen_model m.now) (seen_out d.now))) }
     ensures cause { HasCause (K.faults k.old) (K.faults k.new) result StoreFault.Failed }
 {
     put_out_front(m, d, k)?;
@@ -194,8 +208,10 @@ fn put_out<K: Sink>(m: &Model, d: &OutDef, k: &mut K) -> Result<(), StoreFault>
 
 fn put_outs<K: Sink>(m: &Model, outs: &[OutDef], k: &mut K) -> Result<(), StoreFault>
     requires { IsModel (seen_model m.now) }
-    ensures whole { OnOk result (Adds (K.taken k.old) (K.taken k.new) (flat_map (λ d. out_text (seen_model m.now) (seen_out d)) outs.now)) }
-    ensures part { OnErr result (AddsPart (K.taken k.old) (K.taken k.new) (flat_map (λ d. out_text (seen_model m.now) (seen_out d)) outs.now)) }
+    ensures whole { OnOk result (Adds (K.taken k.old) (K.taken k.new)
+        (flat_map (λ d. out_text (seen_model m.now) (seen_out d)) outs.now)) }
+    ensures part { OnErr result (AddsPart (K.taken k.old) (K.taken k.new)
+        (flat_map (λ d. out_text (seen_model m.now) (seen_out d)) outs.now)) }
     ensures cause { HasCause (K.faults k.old) (K.faults k.new) result StoreFault.Failed }
 {
     for d in outs {
@@ -206,8 +222,10 @@ fn put_outs<K: Sink>(m: &Model, outs: &[OutDef], k: &mut K) -> Result<(), StoreF
 
 fn put_rows<K: Sink>(m: &Model, kind: &[u8], rows: &[RowDef], k: &mut K) -> Result<(), StoreFault>
     requires { IsModel (seen_model m.now) }
-    ensures whole { OnOk result (Adds (K.taken k.old) (K.taken k.new) (flat_map (λ row. row_text (seen_model m.now) kind.now (seen_row row)) rows.now)) }
-    ensures part { OnErr result (AddsPart (K.taken k.old) (K.taken k.new) (flat_map (λ row. row_text (seen_model m.now) kind.now (seen_row row)) rows.now)) }
+    ensures whole { OnOk result (Adds (K.taken k.old) (K.taken k.new)
+        (flat_map (λ row. row_text (seen_model m.now) kind.now (seen_row row)) rows.now)) }
+    ensures part { OnErr result (AddsPart (K.taken k.old) (K.taken k.new)
+        (flat_map (λ row. row_text (seen_model m.now) kind.now (seen_row row)) rows.now)) }
     ensures cause { HasCause (K.faults k.old) (K.faults k.new) result StoreFault.Failed }
 {
     for row in rows {
@@ -218,8 +236,10 @@ fn put_rows<K: Sink>(m: &Model, kind: &[u8], rows: &[RowDef], k: &mut K) -> Resu
 
 /// Writes the inputs of a model.
 pub(crate) fn put_ins<K: Sink>(m: &Model, k: &mut K) -> Result<(), StoreFault>
-    ensures whole { OnOk result (Adds (K.taken k.old) (K.taken k.new) (flat_map input_text (seen_model m.now).ins)) }
-    ensures part { OnErr result (AddsPart (K.taken k.old) (K.taken k.new) (flat_map input_text (seen_model m.now).ins)) }
+    ensures whole { OnOk result
+        (Adds (K.taken k.old) (K.taken k.new) (flat_map input_text (seen_model m.now).ins)) }
+    ensures part { OnErr result
+        (AddsPart (K.taken k.old) (K.taken k.new) (flat_map input_text (seen_model m.now).ins)) }
     ensures cause { HasCause (K.faults k.old) (K.faults k.new) result StoreFault.Failed }
 {
     put_inputs(m.ins.as_slice(), k)
@@ -227,8 +247,10 @@ pub(crate) fn put_ins<K: Sink>(m: &Model, k: &mut K) -> Result<(), StoreFault>
 
 /// Writes the words of a model.
 pub(crate) fn put_words_of<K: Sink>(m: &Model, k: &mut K) -> Result<(), StoreFault>
-    ensures whole { OnOk result (Adds (K.taken k.old) (K.taken k.new) (flat_map word_text (seen_model m.now).words)) }
-    ensures part { OnErr result (AddsPart (K.taken k.old) (K.taken k.new) (flat_map word_text (seen_model m.now).words)) }
+    ensures whole { OnOk result
+        (Adds (K.taken k.old) (K.taken k.new) (flat_map word_text (seen_model m.now).words)) }
+    ensures part { OnErr result
+        (AddsPart (K.taken k.old) (K.taken k.new) (flat_map word_text (seen_model m.now).words)) }
     ensures cause { HasCause (K.faults k.old) (K.faults k.new) result StoreFault.Failed }
 {
     put_all_words(m.words.as_slice(), k)
@@ -237,8 +259,10 @@ pub(crate) fn put_words_of<K: Sink>(m: &Model, k: &mut K) -> Result<(), StoreFau
 /// Writes the outputs of a model.
 pub(crate) fn put_outs_of<K: Sink>(m: &Model, k: &mut K) -> Result<(), StoreFault>
     requires { IsModel (seen_model m.now) }
-    ensures whole { OnOk result (Adds (K.taken k.old) (K.taken k.new) (flat_map (out_text (seen_model m.now)) (seen_model m.now).outs)) }
-    ensures part { OnErr result (AddsPart (K.taken k.old) (K.taken k.new) (flat_map (out_text (seen_model m.now)) (seen_model m.now).outs)) }
+    ensures whole { OnOk result (Adds (K.taken k.old) (K.taken k.new)
+        (flat_map (out_text (seen_model m.now)) (seen_model m.now).outs)) }
+    ensures part { OnErr result (AddsPart (K.taken k.old) (K.taken k.new)
+        (flat_map (out_text (seen_model m.now)) (seen_model m.now).outs)) }
     ensures cause { HasCause (K.faults k.old) (K.faults k.new) result StoreFault.Failed }
 {
     put_outs(m, m.outs.as_slice(), k)
@@ -247,8 +271,10 @@ pub(crate) fn put_outs_of<K: Sink>(m: &Model, k: &mut K) -> Result<(), StoreFaul
 /// Writes the rows of change events.
 pub(crate) fn put_change<K: Sink>(m: &Model, k: &mut K) -> Result<(), StoreFault>
     requires { IsModel (seen_model m.now) }
-    ensures whole { OnOk result (Adds (K.taken k.old) (K.taken k.new) (flat_map (row_text (seen_model m.now) (codes "change")) (seen_model m.now).change)) }
-    ensures part { OnErr result (AddsPart (K.taken k.old) (K.taken k.new) (flat_map (row_text (seen_model m.now) (codes "change")) (seen_model m.now).change)) }
+    ensures whole { OnOk result (Adds (K.taken k.old) (K.taken k.new)
+        (flat_map (row_text (seen_model m.now) (codes "change")) (seen_model m.now).change)) }
+    ensures part { OnErr result (AddsPart (K.taken k.old) (K.taken k.new)
+        (flat_map (row_text (seen_model m.now) (codes "change")) (seen_model m.now).change)) }
     ensures cause { HasCause (K.faults k.old) (K.faults k.new) result StoreFault.Failed }
 {
     put_rows(m, b"change", m.change.as_slice(), k)
@@ -257,8 +283,10 @@ pub(crate) fn put_change<K: Sink>(m: &Model, k: &mut K) -> Result<(), StoreFault
 /// Writes the rows of run events.
 pub(crate) fn put_run<K: Sink>(m: &Model, k: &mut K) -> Result<(), StoreFault>
     requires { IsModel (seen_model m.now) }
-    ensures whole { OnOk result (Adds (K.taken k.old) (K.taken k.new) (flat_map (row_text (seen_model m.now) (codes "run")) (seen_model m.now).run)) }
-    ensures part { OnErr result (AddsPart (K.taken k.old) (K.taken k.new) (flat_map (row_text (seen_model m.now) (codes "run")) (seen_model m.now).run)) }
+    ensures whole { OnOk result (Adds (K.taken k.old) (K.taken k.new)
+        (flat_map (row_text (seen_model m.now) (codes "run")) (seen_model m.now).run)) }
+    ensures part { OnErr result (AddsPart (K.taken k.old) (K.taken k.new)
+        (flat_map (row_text (seen_model m.now) (codes "run")) (seen_model m.now).run)) }
     ensures cause { HasCause (K.faults k.old) (K.faults k.new) result StoreFault.Failed }
 {
     put_rows(m, b"run", m.run.as_slice(), k)

@@ -105,7 +105,8 @@ pub(crate) fn operand_width(m: &Model, o: Operand) -> u32
 #[tactic(auto, unfolding(ij_io::specs::Words::words_text))]
 pub(crate) fn put_operand<K: Sink>(m: &Model, o: Operand, k: &mut K) -> Result<(), StoreFault>
     ensures whole { OnOk result (Adds (K.taken k.old) (K.taken k.new) (operand_text (seen_model m.now) o)) }
-    ensures part { OnErr result (AddsPart (K.taken k.old) (K.taken k.new) (operand_text (seen_model m.now) o)) }
+    ensures part { OnErr result
+        (AddsPart (K.taken k.old) (K.taken k.new) (operand_text (seen_model m.now) o)) }
     ensures cause { HasCause (K.faults k.old) (K.faults k.new) result StoreFault.Failed }
 {
     put_words(
@@ -118,7 +119,8 @@ pub(crate) fn put_operand<K: Sink>(m: &Model, o: Operand, k: &mut K) -> Result<(
 #[tactic(auto, unfolding(ij_io::specs::Words::words_text))]
 pub(crate) fn put_entry<K: Sink>(m: &Model, index: Operand, k: &mut K) -> Result<(), StoreFault>
     ensures whole { OnOk result (Adds (K.taken k.old) (K.taken k.new) (entry_text (seen_model m.now) index)) }
-    ensures part { OnErr result (AddsPart (K.taken k.old) (K.taken k.new) (entry_text (seen_model m.now) index)) }
+    ensures part { OnErr result
+        (AddsPart (K.taken k.old) (K.taken k.new) (entry_text (seen_model m.now) index)) }
     ensures cause { HasCause (K.faults k.old) (K.faults k.new) result StoreFault.Failed }
 {
     put_words(

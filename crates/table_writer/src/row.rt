@@ -7,7 +7,8 @@ ghost use Rattle.ij_io.specs.Causes.{HasCause};
 ghost use Rattle.ij_bits.specs.BitLists.{bits_of};
 ghost use Rattle.instruments.specs.Models.{IsModel};
 ghost use Rattle.instruments.specs.Seen.{seen_model, seen_row};
-ghost use Rattle.bench_file.specs.Written.{digit, digits, compared_text, cond_text, slot_text, amount_text, set_text, when_text, parted, row_text};
+ghost use Rattle.bench_file.specs.Written.{digit, digits, compared_text, cond_text, slot_text, amount_text};
+ghost use Rattle.bench_file.specs.Written.{set_text, when_text, parted, row_text};
 ghost use Rattle.table_writer.specs.Pieces.{sum_text, next_cond, next_set};
 
 use crate::names::{old_mark, operand_name, operand_width, put_entry, put_operand, word_name};
@@ -38,8 +39,10 @@ fn digit_at(value: u64, care: u64, i: u32) -> u8
 /// Writes a digit for each bit, the highest first.
 fn put_digits<K: Sink>(width: u32, value: u64, care: u64, k: &mut K) -> Result<(), StoreFault>
     requires { width ≤ 64 }
-    ensures whole { OnOk result (Adds (K.taken k.old) (K.taken k.new) (digits (bits_of width value) (bits_of width care))) }
-    ensures part { OnErr result (AddsPart (K.taken k.old) (K.taken k.new) (digits (bits_of width value) (bits_of width care))) }
+    ensures whole { OnOk result
+        (Adds (K.taken k.old) (K.taken k.new) (digits (bits_of width value) (bits_of width care))) }
+    ensures part { OnErr result
+        (AddsPart (K.taken k.old) (K.taken k.new) (digits (bits_of width value) (bits_of width care))) }
     ensures cause { HasCause (K.faults k.old) (K.faults k.new) result StoreFault.Failed }
 {
     for j in 0..width {
@@ -51,8 +54,10 @@ fn put_digits<K: Sink>(width: u32, value: u64, care: u64, k: &mut K) -> Result<(
 /// Writes the number of a condition that has x.
 fn put_open<K: Sink>(width: u32, value: u64, care: u64, k: &mut K) -> Result<(), StoreFault>
     requires { width ≤ 64 }
-    ensures whole { OnOk result (Adds (K.taken k.old) (K.taken k.new) (codes "0b" ++ digits (bits_of width value) (bits_of width care))) }
-    ensures part { OnErr result (AddsPart (K.taken k.old) (K.taken k.new) (codes "0b" ++ digits (bits_of width value) (bits_of width care))) }
+    ensures whole { OnOk result (Adds (K.taken k.old) (K.taken k.new)
+        (codes "0b" ++ digits (bits_of width value) (bits_of width care))) }
+    ensures part { OnErr result (AddsPart (K.taken k.old) (K.taken k.new)
+        (codes "0b" ++ digits (bits_of width value) (bits_of width care))) }
     ensures cause { HasCause (K.faults k.old) (K.faults k.new) result StoreFault.Failed }
 {
     k.write(b"0b")?;
@@ -77,7 +82,8 @@ fn put_compared<K: Sink>(width: u32, value: u64, care: u64, k: &mut K) -> Result
 fn put_cond<K: Sink>(m: &Model, c: &Cond, k: &mut K) -> Result<(), StoreFault>
     requires { IsModel (seen_model m.now) }
     ensures whole { OnOk result (Adds (K.taken k.old) (K.taken k.new) (cond_text (seen_model m.now) c.now)) }
-    ensures part { OnErr result (AddsPart (K.taken k.old) (K.taken k.new) (cond_text (seen_model m.now) c.now)) }
+    ensures part { OnErr result
+        (AddsPart (K.taken k.old) (K.taken k.new) (cond_text (seen_model m.now) c.now)) }
     ensures cause { HasCause (K.faults k.old) (K.faults k.new) result StoreFault.Failed }
 {
     put_operand(m, c.of, k)?;
@@ -89,7 +95,8 @@ fn put_cond<K: Sink>(m: &Model, c: &Cond, k: &mut K) -> Result<(), StoreFault>
 fn put_next_cond<K: Sink>(m: &Model, c: &Cond, k: &mut K) -> Result<(), StoreFault>
     requires { IsModel (seen_model m.now) }
     ensures whole { OnOk result (Adds (K.taken k.old) (K.taken k.new) (next_cond (seen_model m.now) c.now)) }
-    ensures part { OnErr result (AddsPart (K.taken k.old) (K.taken k.new) (next_cond (seen_model m.now) c.now)) }
+    ensures part { OnErr result
+        (AddsPart (K.taken k.old) (K.taken k.new) (next_cond (seen_model m.now) c.now)) }
     ensures cause { HasCause (K.faults k.old) (K.faults k.new) result StoreFault.Failed }
 {
     k.write(b", ")?;
@@ -99,8 +106,10 @@ fn put_next_cond<K: Sink>(m: &Model, c: &Cond, k: &mut K) -> Result<(), StoreFau
 
 fn put_more_conds<K: Sink>(m: &Model, conds: &[Cond], k: &mut K) -> Result<(), StoreFault>
     requires { IsModel (seen_model m.now) }
-    ensures whole { OnOk result (Adds (K.taken k.old) (K.taken k.new) (flat_map (next_cond (seen_model m.now)) conds.now)) }
-    ensures part { OnErr result (AddsPart (K.taken k.old) (K.taken k.new) (flat_map (next_cond (seen_model m.now)) conds.now)) }
+    ensures whole { OnOk result
+        (Adds (K.taken k.old) (K.taken k.new) (flat_map (next_cond (seen_model m.now)) conds.now)) }
+    ensures part { OnErr result
+        (AddsPart (K.taken k.old) (K.taken k.new) (flat_map (next_cond (seen_model m.now)) conds.now)) }
     ensures cause { HasCause (K.faults k.old) (K.faults k.new) result StoreFault.Failed }
 {
     for c in conds {
@@ -116,8 +125,10 @@ fn put_first_conds<K: Sink>(
     k: &mut K,
 ) -> Result<(), StoreFault>
     requires { IsModel (seen_model m.now) }
-    ensures whole { OnOk result (Adds (K.taken k.old) (K.taken k.new) (codes " when " ++ (cond_text (seen_model m.now) first.now ++ flat_map (next_cond (seen_model m.now)) rest.now))) }
-    ensures part { OnErr result (AddsPart (K.taken k.old) (K.taken k.new) (codes " when " ++ (cond_text (seen_model m.now) first.now ++ flat_map (next_cond (seen_model m.now)) rest.now))) }
+    ensures whole { OnOk result (Adds (K.taken k.old) (K.taken k.new) (codes " when "
+        ++ (cond_text (seen_model m.now) first.now ++ flat_map (next_cond (seen_model m.now)) rest.now))) }
+    ensures part { OnErr result (AddsPart (K.taken k.old) (K.taken k.new) (codes " when "
+        ++ (cond_text (seen_model m.now) first.now ++ flat_map (next_cond (seen_model m.now)) rest.now))) }
     ensures cause { HasCause (K.faults k.old) (K.faults k.new) result StoreFault.Failed }
 {
     k.write(b" when ")?;
@@ -129,8 +140,10 @@ fn put_first_conds<K: Sink>(
 /// Writes the conditions; without one there is no `when`.
 fn put_when<K: Sink>(m: &Model, conds: &[Cond], k: &mut K) -> Result<(), StoreFault>
     requires { IsModel (seen_model m.now) }
-    ensures whole { OnOk result (Adds (K.taken k.old) (K.taken k.new) (when_text (seen_model m.now) conds.now)) }
-    ensures part { OnErr result (AddsPart (K.taken k.old) (K.taken k.new) (when_text (seen_model m.now) conds.now)) }
+    ensures whole { OnOk result
+        (Adds (K.taken k.old) (K.taken k.new) (when_text (seen_model m.now) conds.now)) }
+    ensures part { OnErr result
+        (AddsPart (K.taken k.old) (K.taken k.new) (when_text (seen_model m.now) conds.now)) }
     ensures cause { HasCause (K.faults k.old) (K.faults k.new) result StoreFault.Failed }
 {
     match conds {
@@ -141,7 +154,8 @@ fn put_when<K: Sink>(m: &Model, conds: &[Cond], k: &mut K) -> Result<(), StoreFa
 
 fn put_slot<K: Sink>(m: &Model, slot: Slot, k: &mut K) -> Result<(), StoreFault>
     ensures whole { OnOk result (Adds (K.taken k.old) (K.taken k.new) (slot_text (seen_model m.now) slot)) }
-    ensures part { OnErr result (AddsPart (K.taken k.old) (K.taken k.new) (slot_text (seen_model m.now) slot)) }
+    ensures part { OnErr result
+        (AddsPart (K.taken k.old) (K.taken k.new) (slot_text (seen_model m.now) slot)) }
     ensures cause { HasCause (K.faults k.old) (K.faults k.new) result StoreFault.Failed }
 {
     match slot {
@@ -159,8 +173,10 @@ fn put_sum<'x, K: Sink>(
     n: u64,
     k: &mut K,
 ) -> Result<(), StoreFault>
-    ensures whole { OnOk result (Adds (K.taken k.old) (K.taken k.new) (sum_text (seen_model m.now) from sign.now n)) }
-    ensures part { OnErr result (AddsPart (K.taken k.old) (K.taken k.new) (sum_text (seen_model m.now) from sign.now n)) }
+    ensures whole { OnOk result
+        (Adds (K.taken k.old) (K.taken k.new) (sum_text (seen_model m.now) from sign.now n)) }
+    ensures part { OnErr result
+        (AddsPart (K.taken k.old) (K.taken k.new) (sum_text (seen_model m.now) from sign.now n)) }
     ensures cause { HasCause (K.faults k.old) (K.faults k.new) result StoreFault.Failed }
 {
     put_words(
@@ -175,8 +191,10 @@ fn put_sum<'x, K: Sink>(
 }
 
 fn put_amount<K: Sink>(m: &Model, amount: Amount, k: &mut K) -> Result<(), StoreFault>
-    ensures whole { OnOk result (Adds (K.taken k.old) (K.taken k.new) (amount_text (seen_model m.now) amount)) }
-    ensures part { OnErr result (AddsPart (K.taken k.old) (K.taken k.new) (amount_text (seen_model m.now) amount)) }
+    ensures whole { OnOk result
+        (Adds (K.taken k.old) (K.taken k.new) (amount_text (seen_model m.now) amount)) }
+    ensures part { OnErr result
+        (AddsPart (K.taken k.old) (K.taken k.new) (amount_text (seen_model m.now) amount)) }
     ensures cause { HasCause (K.faults k.old) (K.faults k.new) result StoreFault.Failed }
 {
     match amount {
@@ -190,7 +208,8 @@ fn put_amount<K: Sink>(m: &Model, amount: Amount, k: &mut K) -> Result<(), Store
 
 fn put_set<K: Sink>(m: &Model, x: &Set, k: &mut K) -> Result<(), StoreFault>
     ensures whole { OnOk result (Adds (K.taken k.old) (K.taken k.new) (set_text (seen_model m.now) x.now)) }
-    ensures part { OnErr result (AddsPart (K.taken k.old) (K.taken k.new) (set_text (seen_model m.now) x.now)) }
+    ensures part { OnErr result
+        (AddsPart (K.taken k.old) (K.taken k.new) (set_text (seen_model m.now) x.now)) }
     ensures cause { HasCause (K.faults k.old) (K.faults k.new) result StoreFault.Failed }
 {
     put_slot(m, x.slot, k)?;
@@ -201,7 +220,8 @@ fn put_set<K: Sink>(m: &Model, x: &Set, k: &mut K) -> Result<(), StoreFault>
 
 fn put_next_set<K: Sink>(m: &Model, x: &Set, k: &mut K) -> Result<(), StoreFault>
     ensures whole { OnOk result (Adds (K.taken k.old) (K.taken k.new) (next_set (seen_model m.now) x.now)) }
-    ensures part { OnErr result (AddsPart (K.taken k.old) (K.taken k.new) (next_set (seen_model m.now) x.now)) }
+    ensures part { OnErr result
+        (AddsPart (K.taken k.old) (K.taken k.new) (next_set (seen_model m.now) x.now)) }
     ensures cause { HasCause (K.faults k.old) (K.faults k.new) result StoreFault.Failed }
 {
     k.write(b", ")?;
@@ -210,8 +230,10 @@ fn put_next_set<K: Sink>(m: &Model, x: &Set, k: &mut K) -> Result<(), StoreFault
 }
 
 fn put_more_sets<K: Sink>(m: &Model, sets: &[Set], k: &mut K) -> Result<(), StoreFault>
-    ensures whole { OnOk result (Adds (K.taken k.old) (K.taken k.new) (flat_map (next_set (seen_model m.now)) sets.now)) }
-    ensures part { OnErr result (AddsPart (K.taken k.old) (K.taken k.new) (flat_map (next_set (seen_model m.now)) sets.now)) }
+    ensures whole { OnOk result
+        (Adds (K.taken k.old) (K.taken k.new) (flat_map (next_set (seen_model m.now)) sets.now)) }
+    ensures part { OnErr result
+        (AddsPart (K.taken k.old) (K.taken k.new) (flat_map (next_set (seen_model m.now)) sets.now)) }
     ensures cause { HasCause (K.faults k.old) (K.faults k.new) result StoreFault.Failed }
 {
     for x in sets {
@@ -226,8 +248,10 @@ fn put_first_sets<K: Sink>(
     rest: &[Set],
     k: &mut K,
 ) -> Result<(), StoreFault>
-    ensures whole { OnOk result (Adds (K.taken k.old) (K.taken k.new) (set_text (seen_model m.now) first.now ++ flat_map (next_set (seen_model m.now)) rest.now)) }
-    ensures part { OnErr result (AddsPart (K.taken k.old) (K.taken k.new) (set_text (seen_model m.now) first.now ++ flat_map (next_set (seen_model m.now)) rest.now)) }
+    ensures whole { OnOk result (Adds (K.taken k.old) (K.taken k.new)
+        (set_text (seen_model m.now) first.now ++ flat_map (next_set (seen_model m.now)) rest.now)) }
+    ensures part { OnErr result (AddsPart (K.taken k.old) (K.taken k.new)
+        (set_text (seen_model m.now) first.now ++ flat_map (next_set (seen_model m.now)) rest.now)) }
     ensures cause { HasCause (K.faults k.old) (K.faults k.new) result StoreFault.Failed }
 {
     put_set(m, first, k)?;
@@ -236,8 +260,10 @@ fn put_first_sets<K: Sink>(
 }
 
 fn put_sets<K: Sink>(m: &Model, sets: &[Set], k: &mut K) -> Result<(), StoreFault>
-    ensures whole { OnOk result (Adds (K.taken k.old) (K.taken k.new) (parted (codes ", ") (map (set_text (seen_model m.now)) sets.now))) }
-    ensures part { OnErr result (AddsPart (K.taken k.old) (K.taken k.new) (parted (codes ", ") (map (set_text (seen_model m.now)) sets.now))) }
+    ensures whole { OnOk result (Adds (K.taken k.old) (K.taken k.new)
+        (parted (codes ", ") (map (set_text (seen_model m.now)) sets.now))) }
+    ensures part { OnErr result (AddsPart (K.taken k.old) (K.taken k.new)
+        (parted (codes ", ") (map (set_text (seen_model m.now)) sets.now))) }
     ensures cause { HasCause (K.faults k.old) (K.faults k.new) result StoreFault.Failed }
 {
     match sets {
@@ -254,8 +280,10 @@ pub(crate) fn put_row<K: Sink>(
     k: &mut K,
 ) -> Result<(), StoreFault>
     requires { IsModel (seen_model m.now) }
-    ensures whole { OnOk result (Adds (K.taken k.old) (K.taken k.new) (row_text (seen_model m.now) kind.now (seen_row row.now))) }
-    ensures part { OnErr result (AddsPart (K.taken k.old) (K.taken k.new) (row_text (seen_model m.now) kind.now (seen_row row.now))) }
+    ensures whole { OnOk result
+        (Adds (K.taken k.old) (K.taken k.new) (row_text (seen_model m.now) kind.now (seen_row row.now))) }
+    ensures part { OnErr result
+        (AddsPart (K.taken k.old) (K.taken k.new) (row_text (seen_model m.now) kind.now (seen_row row.now))) }
     ensures cause { HasCause (K.faults k.old) (K.faults k.new) result StoreFault.Failed }
 {
     k.write(kind)?;

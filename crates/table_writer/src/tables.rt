@@ -27,8 +27,10 @@ fn put_next_name<K: Sink>(name: &Name, k: &mut K) -> Result<(), StoreFault>
 }
 
 fn put_more_names<K: Sink>(names: &[Name], k: &mut K) -> Result<(), StoreFault>
-    ensures whole { OnOk result (Adds (K.taken k.old) (K.taken k.new) (flat_map (λ name. next_name name.items) names.now)) }
-    ensures part { OnErr result (AddsPart (K.taken k.old) (K.taken k.new) (flat_map (λ name. next_name name.items) names.now)) }
+    ensures whole { OnOk result
+        (Adds (K.taken k.old) (K.taken k.new) (flat_map (λ name. next_name name.items) names.now)) }
+    ensures part { OnErr result
+        (AddsPart (K.taken k.old) (K.taken k.new) (flat_map (λ name. next_name name.items) names.now)) }
     ensures cause { HasCause (K.faults k.old) (K.faults k.new) result StoreFault.Failed }
 {
     for name in names {
@@ -38,8 +40,10 @@ fn put_more_names<K: Sink>(names: &[Name], k: &mut K) -> Result<(), StoreFault>
 }
 
 fn put_first_names<K: Sink>(first: &Name, rest: &[Name], k: &mut K) -> Result<(), StoreFault>
-    ensures whole { OnOk result (Adds (K.taken k.old) (K.taken k.new) (first.now.items ++ flat_map (λ name. next_name name.items) rest.now)) }
-    ensures part { OnErr result (AddsPart (K.taken k.old) (K.taken k.new) (first.now.items ++ flat_map (λ name. next_name name.items) rest.now)) }
+    ensures whole { OnOk result (Adds (K.taken k.old) (K.taken k.new)
+        (first.now.items ++ flat_map (λ name. next_name name.items) rest.now)) }
+    ensures part { OnErr result (AddsPart (K.taken k.old) (K.taken k.new)
+        (first.now.items ++ flat_map (λ name. next_name name.items) rest.now)) }
     ensures cause { HasCause (K.faults k.old) (K.faults k.new) result StoreFault.Failed }
 {
     k.write(first.as_slice())?;
@@ -49,8 +53,10 @@ fn put_first_names<K: Sink>(first: &Name, rest: &[Name], k: &mut K) -> Result<()
 
 /// Writes the names of a path.
 fn put_path<K: Sink>(path: &[Name], k: &mut K) -> Result<(), StoreFault>
-    ensures whole { OnOk result (Adds (K.taken k.old) (K.taken k.new) (path_text (map (λ name. name.items) path.now))) }
-    ensures part { OnErr result (AddsPart (K.taken k.old) (K.taken k.new) (path_text (map (λ name. name.items) path.now))) }
+    ensures whole { OnOk result
+        (Adds (K.taken k.old) (K.taken k.new) (path_text (map (λ name. name.items) path.now))) }
+    ensures part { OnErr result
+        (AddsPart (K.taken k.old) (K.taken k.new) (path_text (map (λ name. name.items) path.now))) }
     ensures cause { HasCause (K.faults k.old) (K.faults k.new) result StoreFault.Failed }
 {
     match path {
@@ -61,8 +67,10 @@ fn put_path<K: Sink>(path: &[Name], k: &mut K) -> Result<(), StoreFault>
 
 /// Writes the line that begins a block.
 fn put_instrument<K: Sink>(path: &[Name], k: &mut K) -> Result<(), StoreFault>
-    ensures whole { OnOk result (Adds (K.taken k.old) (K.taken k.new) (instrument_line (map (λ name. name.items) path.now))) }
-    ensures part { OnErr result (AddsPart (K.taken k.old) (K.taken k.new) (instrument_line (map (λ name. name.items) path.now))) }
+    ensures whole { OnOk result
+        (Adds (K.taken k.old) (K.taken k.new) (instrument_line (map (λ name. name.items) path.now))) }
+    ensures part { OnErr result
+        (AddsPart (K.taken k.old) (K.taken k.new) (instrument_line (map (λ name. name.items) path.now))) }
     ensures cause { HasCause (K.faults k.old) (K.faults k.new) result StoreFault.Failed }
 {
     k.write(b"instrument ")?;
@@ -104,8 +112,10 @@ fn put_table<K: Sink>(t: &Table, k: &mut K) -> Result<(), StoreFault>
 
 fn put_blocks<K: Sink>(tables: &[Table], k: &mut K) -> Result<(), StoreFault>
     requires { All (λ t. IsModel (seen_model t.model)) tables.now }
-    ensures whole { OnOk result (Adds (K.taken k.old) (K.taken k.new) (flat_map (λ t. table_text (seen_table t)) tables.now)) }
-    ensures part { OnErr result (AddsPart (K.taken k.old) (K.taken k.new) (flat_map (λ t. table_text (seen_table t)) tables.now)) }
+    ensures whole { OnOk result
+        (Adds (K.taken k.old) (K.taken k.new) (flat_map (λ t. table_text (seen_table t)) tables.now)) }
+    ensures part { OnErr result
+        (AddsPart (K.taken k.old) (K.taken k.new) (flat_map (λ t. table_text (seen_table t)) tables.now)) }
     ensures cause { HasCause (K.faults k.old) (K.faults k.new) result StoreFault.Failed }
 {
     for t in tables {
@@ -116,17 +126,19 @@ fn put_blocks<K: Sink>(tables: &[Table], k: &mut K) -> Result<(), StoreFault>
 
 fn put_all_blocks<K: Sink>(tables: &List<Table>, k: &mut K) -> Result<(), StoreFault>
     requires { All (λ t. IsModel (seen_model t.model)) tables.now.items }
-    ensures whole { OnOk result (Adds (K.taken k.old) (K.taken k.new) (flat_map table_text (seen_tables tables.now))) }
-    ensures part { OnErr result (AddsPart (K.taken k.old) (K.taken k.new) (flat_map table_text (seen_tables tables.now))) }
+    ensures whole { OnOk result
+        (Adds (K.taken k.old) (K.taken k.new) (flat_map table_text (seen_tables tables.now))) }
+    ensures part { OnErr result
+        (AddsPart (K.taken k.old) (K.taken k.new) (flat_map table_text (seen_tables tables.now))) }
     ensures cause { HasCause (K.faults k.old) (K.faults k.new) result StoreFault.Failed }
 {
     put_blocks(tables.as_slice(), k)
 }
 
-/// Writes tables as a file of version 2, with the lines of a block in their order: one space between fields and round `=`, `+`
-/// and `-`, and a comma followed by one space. `init` is always written, and `reset` where there is one. An output that is a
-/// whole word has no brackets. Numbers are decimal; the number of a condition with x has `0b` and as many digits as bits. It takes
-/// no memory itself.
+/// Writes tables as a file of version 2, with the lines of a block in their order: one space between fields
+/// and round `=`, `+` and `-`, and a comma followed by one space. `init` is always written, and `reset` where
+/// there is one. An output that is a whole word has no brackets. Numbers are decimal; the number of a
+/// condition with x has `0b` and as many digits as bits. It takes no memory itself.
 ///
 /// The models are well formed, as those that [`read_tables`](table_file::read_tables) gives.
 ///
@@ -136,8 +148,10 @@ fn put_all_blocks<K: Sink>(tables: &List<Table>, k: &mut K) -> Result<(), StoreF
 #[tactic(auto, unfolding(bench_file::specs::Written::tables_text))]
 pub fn put_tables<K: Sink>(tables: &List<Table>, k: &mut K) -> Result<(), StoreFault>
     requires { All (λ t. IsModel (seen_model t.model)) tables.now.items }
-    ensures whole { OnOk result (Adds (K.taken k.old) (K.taken k.new) (tables_text (seen_tables tables.now))) }
-    ensures part { OnErr result (AddsPart (K.taken k.old) (K.taken k.new) (tables_text (seen_tables tables.now))) }
+    ensures whole { OnOk result
+        (Adds (K.taken k.old) (K.taken k.new) (tables_text (seen_tables tables.now))) }
+    ensures part { OnErr result
+        (AddsPart (K.taken k.old) (K.taken k.new) (tables_text (seen_tables tables.now))) }
     ensures cause { HasCause (K.faults k.old) (K.faults k.new) result StoreFault.Failed }
 {
     k.write(b"tables 2\n")?;

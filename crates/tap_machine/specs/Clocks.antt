@@ -13,4 +13,5 @@ is_reset InIdle = false
 
 abbrev pub PinsAreClocks : Type 0
 PinsAreClocks =
-    (cs : List SeenCommand) (from : Stable) (scans : ℕ) → AreFit cs → length (pins from scans cs) ≡ clocks_from (is_reset from) cs
+    (cs : List SeenCommand) (from : Stable) (scans : ℕ) → AreFit cs
+    → length (pins from scans cs) ≡ clocks_from (is_reset from) cs

@@ -9,8 +9,10 @@ use Rattle.tap_machine.specs.Play.{is_empty, masked}
 abbrev pub stretch : ℕ → ℕ → Bool → List Bool → List (Option Bool) → List Pins
 stretch scan k tms [] es = []
 stretch scan k tms (t ∷ ts) es =
-    record { tms = cond (is_empty ts) tms false; tdi = t; expect = get_or es 0 None; scan = scan; bit = k } ∷ stretch scan (suc k) tms ts (drop 1 es)
+    record { tms = cond (is_empty ts) tms false; tdi = t; expect = get_or es 0 None; scan = scan; bit = k }
+    ∷ stretch scan (suc k) tms ts (drop 1 es)
 
 -- the pins of the clocks, one by one
 abbrev pub piece_pins : Piece → List Pins
-piece_pins p = stretch p.scan p.bit p.tms (bits_of p.count p.tdi) (masked (bits_of p.count p.expected) (bits_of p.count p.compared))
+piece_pins p = stretch p.scan p.bit p.tms (bits_of p.count p.tdi)
+    (masked (bits_of p.count p.expected) (bits_of p.count p.compared))

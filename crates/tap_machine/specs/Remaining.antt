@@ -1,5 +1,6 @@
 -- What is left of a play: the pins still to come, and the state in which they leave the controller.
-use Rattle.std.specs.Prelude.{◌≡◌, ◌<◌, ◌^◌, ◌+◌, ◌*◌, ◌==◌, ℕ, cond, true, false, List, [], ◌∷◌, ◌++◌, length, replicate, map, drop, Option, Some, None, option_map, unwrap_or}
+use Rattle.std.specs.Prelude.{◌≡◌, ◌<◌, ◌^◌, ◌+◌, ◌*◌, ◌==◌, ℕ, cond, true, false, List, [], ◌∷◌, ◌++◌}
+use Rattle.std.specs.Prelude.{length, replicate, map, drop, Option, Some, None, option_map, unwrap_or}
 use Rattle.svf_writer.specs.Fits.{HasLength, AreFitAfter}
 use Rattle.svf_writer.specs.Lent.{lent}
 use Rattle.tap_machine.specs.declared.Pins.{Pins}
@@ -7,10 +8,12 @@ use Rattle.tap_machine.specs.declared.Stable.{Stable}
 use Rattle.tap_machine.specs.declared.Stable.TheVariants.{Reset as InReset, Idle as InIdle}
 use Rattle.tap_machine.specs.declared.progress.HeldBits.{HeldBits}
 use Rattle.tap_machine.specs.declared.progress.Phase.{Phase}
-use Rattle.tap_machine.specs.declared.progress.Phase.TheVariants.{Quiet, BeforeIr, BeforeDr, Select, Enter, Shift, Exit, Update}
+use Rattle.tap_machine.specs.declared.progress.Phase.TheVariants.{Quiet, BeforeIr, BeforeDr, Select, Enter}
+use Rattle.tap_machine.specs.declared.progress.Phase.TheVariants.{Shift, Exit, Update}
 use Rattle.tap_machine.specs.declared.progress.Progress.{Progress}
 use Rattle.svf_writer.specs.SeenCommands.{SeenCommand}
-use Rattle.tap_machine.specs.Play.{no_shift, shifts, LastScan, Played, expected, sir_pins, sdr_pins, pins_with, rests_after, scans_in}
+use Rattle.tap_machine.specs.Play.{no_shift, shifts, LastScan, Played, expected, sir_pins, sdr_pins}
+use Rattle.tap_machine.specs.Play.{pins_with, rests_after, scans_in}
 
 -- a play as contracts see it: the pins that are left, and where they leave the controller
 pub record Remaining : Type 0 where
@@ -20,7 +23,11 @@ pub record Remaining : Type 0 where
 -- what is kept of the last scan of a kind, by what it was taken from
 abbrev pub seen_held : HeldBits → LastScan
 seen_held s =
-    record { len = s.len; tdi = unwrap_or (lent s.tdi) []; mask = unwrap_or (lent s.mask) (replicate s.len true) }
+    record {
+      len = s.len;
+      tdi = unwrap_or (lent s.tdi) [];
+      mask = unwrap_or (lent s.mask) (replicate s.len true);
+    }
 
 -- the length of that scan, where there was one
 abbrev pub last_length : HeldBits → Option ℕ
@@ -34,7 +41,11 @@ pub record AreHeldBits (s : HeldBits) : Type 0 where
 -- the scan at hand
 abbrev pub scan_under_way : Progress → Played
 scan_under_way p =
-    record { tdi = unwrap_or (lent p.scan.tdi) []; expects = expected p.scan.len (lent p.tdo) (unwrap_or (lent p.scan.mask) (replicate p.scan.len true)) }
+    record {
+      tdi = unwrap_or (lent p.scan.tdi) [];
+      expects =
+          expected p.scan.len (lent p.tdo) (unwrap_or (lent p.scan.mask) (replicate p.scan.len true));
+    }
 
 -- the pins of a scan from a position on
 abbrev pub pins_from : ℕ → Played → ℕ → List Pins

@@ -8,10 +8,11 @@ use crate::{Piece, Pins, Stable};
 use std::marker::Model;
 use svf_writer::Commands;
 
-/// A play of SVF commands, clock by clock or in pieces (Serial Vector Format, revision E). It copies no scan and takes no memory.
+/// A play of SVF commands, clock by clock or in pieces (Serial Vector Format, revision E). It copies no scan
+/// and takes no memory.
 ///
-/// Contracts see a record: `pins`, the pins that are still to come, and `rests`, the state in which they leave the
-/// controller.
+/// Contracts see a record: `pins`, the pins that are still to come, and `rests`, the state in which they
+/// leave the controller.
 #[derive(Drop)]
 pub struct Player<'a> {
     progress: Progress<'a>,
@@ -59,8 +60,8 @@ impl<'a> Player<'a> {
         }
     }
 
-    /// What stands on the pins at the next clock, and what is expected at TDO; `None` where all were given. It takes
-    /// no memory.
+    /// What stands on the pins at the next clock, and what is expected at TDO; `None` where all were given.
+    /// It takes no memory.
     #[tactic(auto, using(crate::proofs::Remains::one_given, crate::proofs::Remains::none_given))]
     pub fn next(&mut self) -> Option<Pins>
         ensures given { MatchOption result (self.old.pins ≡ []) (λ p. self.old.pins ≡ p ∷ self.new.pins) }
@@ -70,10 +71,11 @@ impl<'a> Player<'a> {
         self.progress.next()
     }
 
-    /// The next clocks: up to `most` and up to 64 at once where they shift one scan, else one; `None` where all were given. It
-    /// takes no memory.
+    /// The next clocks: up to `most` and up to 64 at once where they shift one scan, else one; `None` where
+    /// all were given. It takes no memory.
     pub fn next_piece(&mut self, most: u32) -> Option<Piece>
-        ensures given { MatchOption result (self.old.pins ≡ []) (λ p. self.old.pins ≡ piece_pins p ++ self.new.pins) }
+        ensures given { MatchOption result (self.old.pins ≡ [])
+            (λ p. self.old.pins ≡ piece_pins p ++ self.new.pins) }
         ensures end { IsNone result → self.new.pins ≡ [] }
         ensures some { IfSome result (λ p. 1 ≤ p.count) }
         ensures few { IfSome result (λ p. p.count ≤ 64) }

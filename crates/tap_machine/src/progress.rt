@@ -1,18 +1,23 @@
 // How far a play has come in its list of commands.
-ghost use Rattle.std.specs.Prelude.{◌≡◌, ◌<◌, ◌≤◌, ◌+◌, ◌^◌, ◌∷◌, ◌++◌, [], length, drop, get_or, slice_range, replicate, true, false, Some, None, unwrap_or, IfSome, IsNone, MatchOption};
+ghost use Rattle.std.specs.Prelude.{◌≡◌, ◌<◌, ◌≤◌, ◌+◌, ◌^◌, ◌∷◌, ◌++◌, [], length, drop, get_or};
+ghost use Rattle.std.specs.Prelude.{slice_range, replicate, true, false, Some, None, unwrap_or, IfSome};
+ghost use Rattle.std.specs.Prelude.{IsNone, MatchOption};
 ghost use Rattle.ij_bits.specs.BitLists.{bits_of};
 ghost use Rattle.svf_writer.specs.Fits.{FitsAfter, HasLength};
 ghost use Rattle.svf_writer.specs.Lent.{lent};
 ghost use Rattle.svf_writer.specs.SeenCommands.{SIR, SDR, seen_scan, seen_command};
-ghost use Rattle.tap_machine.specs.Remaining.{seen_held, last_length, AreHeldBits, scan_under_way, shifted_to, phase_pins, pins_at_hand, later_pins, remaining_pins, rests_at_end, remaining_commands, to_begin, IsWithin, IsUnderWay, first_of};
+ghost use Rattle.tap_machine.specs.Remaining.{seen_held, last_length, AreHeldBits, scan_under_way};
+ghost use Rattle.tap_machine.specs.Remaining.{shifted_to, phase_pins, pins_at_hand, later_pins};
+ghost use Rattle.tap_machine.specs.Remaining.{remaining_pins, rests_at_end, remaining_commands, to_begin};
+ghost use Rattle.tap_machine.specs.Remaining.{IsWithin, IsUnderWay, first_of};
 ghost use Rattle.tap_machine.specs.Play.{no_shift, after_scan, masked};
 ghost use Rattle.tap_machine.specs.Pieces.{piece_pins};
 
 use crate::{Piece, Pins, Stable};
 use svf_writer::{Command, Commands, Part, Scan, lend};
 
-/// The length of the last scan of a kind, and the bits of the commands that it took its TDI and MASK from. Without
-/// MASK each bit is compared.
+/// The length of the last scan of a kind, and the bits of the commands that it took its TDI and MASK from.
+/// Without MASK each bit is compared.
 #[derive(Clone, Copy)]
 pub(crate) struct HeldBits<'a> {
     pub len: u32,
@@ -41,9 +46,9 @@ pub(crate) enum Phase {
     Update,
 }
 
-/// A play under way: the commands, the number of those that are begun, the state in which the command at hand leaves
-/// the controller, and the number of scans so far; of the scan at hand what it shifts and what it expects; and what
-/// the last scan of each kind leaves to the next.
+/// A play under way: the commands, the number of those that are begun, the state in which the command at hand
+/// leaves the controller, and the number of scans so far; of the scan at hand what it shifts and what it
+/// expects; and what the last scan of each kind leaves to the next.
 #[derive(Drop)]
 pub(crate) struct Progress<'a> {
     pub commands: &'a Commands,
@@ -111,7 +116,8 @@ impl<'a> Progress<'a> {
     fn is_compared(&self, k: u32) -> bool
         requires within { k < self.now.scan.len }
         requires sound { AreHeldBits self.now.scan }
-        ensures { result ≡ get_or (unwrap_or (lent self.now.scan.mask) (replicate self.now.scan.len true)) k false }
+        ensures { result
+            ≡ get_or (unwrap_or (lent self.now.scan.mask) (replicate self.now.scan.len true)) k false }
     {
         match self.scan.mask {
             Some(mask) => mask.get(k),
@@ -137,7 +143,8 @@ impl<'a> Progress<'a> {
     fn shift_clock(&self, k: u32) -> Pins
         requires within { k < self.now.scan.len }
         requires sound { IsUnderWay self.now }
-        ensures pins { Some result ≡ first_of (phase_pins self.now.scans (scan_under_way self.now) (Phase.Shift k)) }
+        ensures pins { Some result
+            ≡ first_of (phase_pins self.now.scans (scan_under_way self.now) (Phase.Shift k)) }
         ensures short { result.bit + 1 < 2 ^ 32 }
     {
         let tdi = match self.scan.tdi {
@@ -177,7 +184,8 @@ impl<'a> Progress<'a> {
     fn shift_after(&self, k: u32) -> Phase
         requires within { k < self.now.scan.len }
         requires sound { IsUnderWay self.now }
-        ensures pins { phase_pins self.now.scans (scan_under_way self.now) result ≡ drop 1 (phase_pins self.now.scans (scan_under_way self.now) (Phase.Shift k)) }
+        ensures pins { phase_pins self.now.scans (scan_under_way self.now) result
+            ≡ drop 1 (phase_pins self.now.scans (scan_under_way self.now) (Phase.Shift k)) }
         ensures within { IsWithin self.now.scan.len result }
     {
         let last = self.scan.len - 1;
@@ -191,7 +199,8 @@ impl<'a> Progress<'a> {
     /// The phase after a clock.
     fn phase_after(&self) -> Phase
         requires { IsUnderWay self.now }
-        ensures pins { phase_pins self.now.scans (scan_under_way self.now) result ≡ drop 1 (pins_at_hand self.now) }
+        ensures pins { phase_pins self.now.scans (scan_under_way self.now) result
+            ≡ drop 1 (pins_at_hand self.now) }
         ensures within { IsWithin self.now.scan.len result }
     {
         match self.phase {
@@ -215,7 +224,8 @@ impl<'a> Progress<'a> {
     /// The next command.
     fn command(&self) -> &'a Command
         requires { self.now.at < length self.now.commands.now }
-        ensures { remaining_commands self.now ≡ seen_command result.now ∷ drop (self.now.at + 1) self.now.commands.now }
+        ensures { remaining_commands self.now
+            ≡ seen_command result.now ∷ drop (self.now.at + 1) self.now.commands.now }
     {
         self.commands.get(self.at)
     }
@@ -225,7 +235,13 @@ impl<'a> Progress<'a> {
         requires more { self.old.at + 1 < 2 ^ 64 }
         requires few { self.old.scans + 1 < 2 ^ 32 }
         ensures tdo { lent self.new.tdo ≡ tdo.now }
-        ensures others { self.new ≡ record self.old { phase = phase; scan = scan.entry; tdo = self.new.tdo; scans = self.old.scans + 1; at = self.old.at + 1 } }
+        ensures others { self.new ≡ record self.old {
+          phase = phase;
+          scan = scan.entry;
+          tdo = self.new.tdo;
+          scans = self.old.scans + 1;
+          at = self.old.at + 1;
+        } }
     {
         self.phase = phase;
         self.scan = scan;
@@ -239,7 +255,8 @@ impl<'a> Progress<'a> {
         requires sound { IsUnderWay self.old }
         requires idle { self.old.rests_in ≡ Stable.Idle }
         requires more { self.old.at < length self.old.commands.now }
-        requires next { remaining_commands self.old ≡ SIR (seen_scan scan.now) ∷ drop (self.old.at + 1) self.old.commands.now }
+        requires next { remaining_commands self.old
+            ≡ SIR (seen_scan scan.now) ∷ drop (self.old.at + 1) self.old.commands.now }
         ensures pins { remaining_pins self.new ≡ later_pins self.old }
         ensures rests { rests_at_end self.new ≡ rests_at_end self.old }
         ensures sound { IsUnderWay self.new }
@@ -254,7 +271,8 @@ impl<'a> Progress<'a> {
         requires sound { IsUnderWay self.old }
         requires idle { self.old.rests_in ≡ Stable.Idle }
         requires more { self.old.at < length self.old.commands.now }
-        requires next { remaining_commands self.old ≡ SDR (seen_scan scan.now) ∷ drop (self.old.at + 1) self.old.commands.now }
+        requires next { remaining_commands self.old
+            ≡ SDR (seen_scan scan.now) ∷ drop (self.old.at + 1) self.old.commands.now }
         ensures pins { remaining_pins self.new ≡ later_pins self.old }
         ensures rests { rests_at_end self.new ≡ rests_at_end self.old }
         ensures sound { IsUnderWay self.new }
@@ -324,13 +342,15 @@ impl<'a> Progress<'a> {
         }
     }
 
-    /// The `n` bits of a part of the scan at hand from a position on; without the part, each of them is the given one.
+    /// The `n` bits of a part of the scan at hand from a position on; without the part, each of them is the
+    /// given one.
     fn part_bits(&self, part: Option<&Part>, k: u32, n: u32, value: bool) -> u64
         requires some { 1 ≤ n }
         requires few { n ≤ 64 }
         requires within { k + n ≤ self.now.scan.len }
         requires sound { HasLength self.now.scan.len (lent part) }
-        ensures { bits_of n result ≡ slice_range (unwrap_or (lent part.entry) (replicate self.now.scan.len value)) k (k + n) }
+        ensures { bits_of n result
+            ≡ slice_range (unwrap_or (lent part.entry) (replicate self.now.scan.len value)) k (k + n) }
     {
         match part {
             Some(part) => part.number(k, n),
@@ -344,7 +364,8 @@ impl<'a> Progress<'a> {
         requires few { n ≤ 64 }
         requires within { k + n ≤ self.now.scan.len }
         requires sound { IsUnderWay self.now }
-        ensures { masked (slice_range (unwrap_or (lent self.now.tdo) (replicate self.now.scan.len false)) k (k + n)) (bits_of n result) ≡ slice_range (scan_under_way self.now).expects k (k + n) }
+        ensures { masked (slice_range (unwrap_or (lent self.now.tdo) (replicate self.now.scan.len false)) k
+            (k + n)) (bits_of n result) ≡ slice_range (scan_under_way self.now).expects k (k + n) }
     {
         match self.tdo {
             Some(_) => self.part_bits(self.scan.mask, k, n, true),
@@ -358,7 +379,8 @@ impl<'a> Progress<'a> {
         requires few { n ≤ 64 }
         requires within { k + n ≤ self.now.scan.len }
         requires sound { IsUnderWay self.now }
-        ensures pins { phase_pins self.now.scans (scan_under_way self.now) (Phase.Shift k) ≡ piece_pins result ++ phase_pins self.now.scans (scan_under_way self.now) (shifted_to self.now.scan.len (k + n)) }
+        ensures pins { phase_pins self.now.scans (scan_under_way self.now) (Phase.Shift k) ≡ piece_pins result
+            ++ phase_pins self.now.scans (scan_under_way self.now) (shifted_to self.now.scan.len (k + n)) }
         ensures count { result.count ≡ n }
         ensures bit { result.bit ≡ k }
     {
@@ -400,7 +422,8 @@ impl<'a> Progress<'a> {
     /// The next clock, as a piece.
     fn next_one(&mut self) -> Option<Piece>
         requires { IsUnderWay self.old }
-        ensures pins { MatchOption result (remaining_pins self.old ≡ []) (λ p. remaining_pins self.old ≡ piece_pins p ++ remaining_pins self.new) }
+        ensures pins { MatchOption result (remaining_pins self.old ≡ [])
+            (λ p. remaining_pins self.old ≡ piece_pins p ++ remaining_pins self.new) }
         ensures end { IsNone result → remaining_pins self.new ≡ [] }
         ensures one { IfSome result (λ p. p.count ≡ 1) }
         ensures short { IfSome result (λ p. p.bit + p.count < 2 ^ 32) }
@@ -411,10 +434,12 @@ impl<'a> Progress<'a> {
         Some(Piece::one(&pins))
     }
 
-    /// The next clocks: up to `most` and up to 64 at once where they shift one scan, else one; `None` where all were given.
+    /// The next clocks: up to `most` and up to 64 at once where they shift one scan, else one; `None` where
+    /// all were given.
     pub(crate) fn next_piece(&mut self, most: u32) -> Option<Piece>
         requires { IsUnderWay self.old }
-        ensures pins { MatchOption result (remaining_pins self.old ≡ []) (λ p. remaining_pins self.old ≡ piece_pins p ++ remaining_pins self.new) }
+        ensures pins { MatchOption result (remaining_pins self.old ≡ [])
+            (λ p. remaining_pins self.old ≡ piece_pins p ++ remaining_pins self.new) }
         ensures end { IsNone result → remaining_pins self.new ≡ [] }
         ensures some { IfSome result (λ p. 1 ≤ p.count) }
         ensures few { IfSome result (λ p. p.count ≤ 64) }

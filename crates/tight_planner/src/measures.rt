@@ -61,7 +61,8 @@ fn measure_mux(all: &mut Segments, m: usize, found: MuxInfo) -> Result<(), Stop>
     Ok(())
 }
 
-/// The bits of a mux whose segment is on the path for the first time: it is in any row if it was set from outside.
+/// The bits of a mux whose segment is on the path for the first time: it is in any row if it was set from
+/// outside.
 fn first_bits(rest: Segment, reset: Segment, outside: bool) -> u64 {
     if outside { rest.fresh } else { reset.fresh }
 }

@@ -30,7 +30,8 @@ struct Level {
     from: Vec<usize>,
 }
 
-/// How many of these segments must be on the path so that all of them can be; `None` where reset selects them.
+/// How many of these segments must be on the path so that all of them can be; `None` where reset selects
+/// them.
 fn level_before(all: &Segments, chain: &[usize], count: usize) -> Result<Option<usize>, Stop> {
     let mut deepest = None;
     for s in chain.iter().take(count) {
@@ -210,8 +211,8 @@ impl Stretch {
         Ok(sums)
     }
 
-    /// Adds the bits that a segment costs at each scan, where those around it are on the path. The first scan has the
-    /// path at reset.
+    /// Adds the bits that a segment costs at each scan, where those around it are on the path. The first scan
+    /// has the path at reset.
     fn add_costs(&self, all: &Segments, segment: usize, costs: &mut [u64]) -> Result<(), Stop> {
         let it = copy_at(&all.segments, segment)?;
         let extra = all.extra(segment)?;

@@ -26,8 +26,8 @@ fn free_scans(list: &[Want], next: usize, rest_want: usize, scan: usize, scans: 
     end.saturating_sub(scan).saturating_sub(others) as u64
 }
 
-/// The row that a mux takes where nobody asks for one: that with the fewest bits, but a row that was never on the path
-/// since the reset costs more at first, which pays only where it is used often enough.
+/// The row that a mux takes where nobody asks for one: that with the fewest bits, but a row that was never on
+/// the path since the reset costs more at first, which pays only where it is used often enough.
 pub(crate) fn rest_row(
     all: &Segments,
     stretch: &Stretch,
@@ -71,7 +71,8 @@ fn cost_of(all: &Segments, visits: &Visits, segment: usize, times: u64) -> Resul
     Ok(first.saturating_add(later))
 }
 
-/// The row that a mux takes where nobody asks for one, and some of its select bits weren't on the path since the reset.
+/// The row that a mux takes where nobody asks for one, and some of its select bits weren't on the path since
+/// the reset.
 pub(crate) fn early_rest(
     all: &Segments,
     visits: &Visits,

@@ -1,5 +1,5 @@
-// The segments of a nested network: its outer list, and the rows of its scan multiplexers (IEEE 1687-2014: scan
-// segments, ScanMux).
+// The segments of a nested network: its outer list, and the rows of its scan multiplexers (IEEE 1687-2014:
+// scan segments, ScanMux).
 
 use crate::access::{at, copy_at, push_at, put_at};
 use crate::measures::measured;

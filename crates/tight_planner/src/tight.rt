@@ -130,8 +130,8 @@ fn planned<'b>(
     Err(Stop::NoPlan)
 }
 
-/// The SVF text of a procedure's bit steps, planned as a whole for the fewest clocks; `None` where there is no such plan
-/// (IEEE 1687-2014, PDL level 0; Serial Vector Format, revision E). All bit steps are taken.
+/// The SVF text of a procedure's bit steps, planned as a whole for the fewest clocks; `None` where there is
+/// no such plan (IEEE 1687-2014, PDL level 0; Serial Vector Format, revision E). All bit steps are taken.
 ///
 /// Nothing is promised of the text: have it audited before it is used.
 ///

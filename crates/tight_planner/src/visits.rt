@@ -1,5 +1,5 @@
-// Which select values the scans write: a multiplexer is set to its next row by the scan that had its select bits on the
-// path last.
+// Which select values the scans write: a multiplexer is set to its next row by the scan that had its select
+// bits on the path last.
 
 use crate::access::{at, copy_at, put_at};
 use crate::openings::row_wanted;
@@ -64,7 +64,8 @@ impl Visits {
 }
 
 impl Stretch {
-    /// Finds the select values of all scans: the better of two ways to treat rows that were never on the path.
+    /// Finds the select values of all scans: the better of two ways to treat rows that were never on the
+    /// path.
     pub fn settle(&mut self, all: &Segments) -> Result<(), Stop> {
         if all.uneven {
             let wary = self.visit_all(all, true)?;

@@ -1,5 +1,6 @@
 -- Networks whose lists have no room to spare.
-use Rattle.std.specs.Prelude.{◌≡◌, ℕ, zero, suc, ◌+◌, ◌-◌, ◌*◌, ◌/◌, Bool, false, List, [], ◌∷◌, length, map, Some, None, is_some, slice_index_or, refl}
+use Rattle.std.specs.Prelude.{◌≡◌, ℕ, zero, suc, ◌+◌, ◌-◌, ◌*◌, ◌/◌, Bool, false, List, [], ◌∷◌, length, map}
+use Rattle.std.specs.Prelude.{Some, None, is_some, slice_index_or, refl}
 use Rattle.std.specs.Option.{unwrap_or}
 use Rattle.std.proofs.Common.{ap}
 use Rattle.std.proofs.lemmas.Bool.{true≢false}
@@ -7,7 +8,8 @@ use Rattle.ij_bits.specs.Room.{Listed, full}
 use Rattle.ij_bits.specs.declared.tern.Tern.{Tern}
 use Rattle.icl_declarations.specs.Values.{OpenBits}
 use Rattle.icl_references.specs.Roles.{Word}
-use Rattle.icl_signals.specs.PlainNets.{RegisterOf, RowOf, MuxOf, InputOf, OutputOf, InstrumentOf, NodeOf, ThingOf, NetOf}
+use Rattle.icl_signals.specs.PlainNets.{RegisterOf, RowOf, MuxOf, InputOf, OutputOf, InstrumentOf, NodeOf}
+use Rattle.icl_signals.specs.PlainNets.{ThingOf, NetOf}
 use Rattle.net_graph.specs.declared.net.Reg.{Reg}
 use Rattle.net_graph.specs.declared.net.Row.{Row}
 use Rattle.net_graph.specs.declared.net.Mux.{Mux}
@@ -38,7 +40,8 @@ as_long [] = refl
 as_long (bit ∷ bits) = ap suc (as_long bits)
 
 -- an open bit is 0
-pub open_are_zero : (bits : OpenBits) (k : ℕ) → slice_index_or (cares_of bits) k false ≡ false → slice_index_or (values_of bits) k false ≡ false
+pub open_are_zero : (bits : OpenBits) (k : ℕ) → slice_index_or (cares_of bits) k false ≡ false
+    → slice_index_or (values_of bits) k false ≡ false
 open_are_zero [] k e = e
 open_are_zero (None ∷ bits) zero e = refl
 open_are_zero (Some bit ∷ bits) zero e = absurd (true≢false e)
@@ -46,7 +49,12 @@ open_are_zero (bit ∷ bits) (suc k) e = open_are_zero bits k e
 
 abbrev pub trimmed_tern : OpenBits → Tern
 trimmed_tern bits =
-    record { value = packed (values_of bits); care = packed (cares_of bits); same_length = as_long bits; open_is_zero = open_are_zero bits }
+    record {
+      value = packed (values_of bits);
+      care = packed (cares_of bits);
+      same_length = as_long bits;
+      open_is_zero = open_are_zero bits;
+    }
 
 -- ---- the parts of a network
 
@@ -55,13 +63,20 @@ abbrev pub trimmed_word : Word → Listed ℕ × Tern
 trimmed_word w = (full w.name, trimmed_tern w.value)
 
 abbrev pub trimmed_reg : RegisterOf → Reg
-trimmed_reg r = record { width = r.width; from = r.from; capture = full r.capture; reset = trimmed_tern r.reset; thing = r.thing }
+trimmed_reg r = record {
+  width = r.width;
+  from = r.from;
+  capture = full r.capture;
+  reset = trimmed_tern r.reset;
+  thing = r.thing;
+}
 
 abbrev pub trimmed_row : RowOf → Row
 trimmed_row r = record { values = full (map trimmed_tern r.values); from = r.from }
 
 abbrev pub trimmed_mux : MuxOf → Mux
-trimmed_mux m = record { select = full m.select; rows = full (map trimmed_row m.rows); node = m.node; name = full m.name }
+trimmed_mux m =
+    record { select = full m.select; rows = full (map trimmed_row m.rows); node = m.node; name = full m.name }
 
 abbrev pub trimmed_input : InputOf → PortIn
 trimmed_input p = record { name = full p.name; bits = full p.bits }
@@ -70,16 +85,31 @@ abbrev pub trimmed_output : OutputOf → PortOut
 trimmed_output p = record { name = full p.name; width = p.width }
 
 abbrev pub trimmed_inst : InstrumentOf → Inst
-trimmed_inst i = record { node = i.node; ins = full (map trimmed_input i.ins); outs = full (map trimmed_output i.outs) }
+trimmed_inst i =
+    record { node = i.node; ins = full (map trimmed_input i.ins); outs = full (map trimmed_output i.outs) }
 
 abbrev pub trimmed_node : NodeOf → Node
 trimmed_node n = record { path = full (map full n.path); «module» = full n.module_name }
 
 abbrev pub trimmed_thing : ThingOf → Thing
-trimmed_thing t = record { node = t.node; name = full t.name; left = t.left; right = t.right; bits = full t.bits; words = full (map trimmed_word t.words) }
+trimmed_thing t = record {
+  node = t.node;
+  name = full t.name;
+  left = t.left;
+  right = t.right;
+  bits = full t.bits;
+  words = full (map trimmed_word t.words);
+}
 
 -- ---- the network
 
 -- the network of a view whose lists have no room to spare
 abbrev pub trimmed : NetOf → Net
-trimmed n = record { regs = full (map trimmed_reg n.regs); muxes = full (map trimmed_mux n.muxes); insts = full (map trimmed_inst n.insts); out = n.out; nodes = full (map trimmed_node n.nodes); things = full (map trimmed_thing n.things) }
+trimmed n = record {
+  regs = full (map trimmed_reg n.regs);
+  muxes = full (map trimmed_mux n.muxes);
+  insts = full (map trimmed_inst n.insts);
+  out = n.out;
+  nodes = full (map trimmed_node n.nodes);
+  things = full (map trimmed_thing n.things);
+}

@@ -9,7 +9,8 @@ use ij_bits::OutOfMemory;
 use net_graph::Device;
 use std::alloc::Global;
 
-/// The same device, with names that have no room to spare (IEEE 1149.1-2013). [`OutOfMemory`] is all that it refuses by.
+/// The same device, with names that have no room to spare (IEEE 1149.1-2013). [`OutOfMemory`] is all that it
+/// refuses by.
 pub fn trim_device(alloc: Global, device: &Device) -> Result<Device, OutOfMemory>
     ensures device { IfOk result (λ d. d ≡ trimmed_device (seen_device device.now)) }
     ensures valid { IsDevice device.now → IfOk result IsDevice }

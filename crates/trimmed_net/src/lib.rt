@@ -1,4 +1,5 @@
-//! Networks and devices whose lists have no room to spare: each is the value that its view says, and nothing else.
+//! Networks and devices whose lists have no room to spare: each is the value that its view says, and nothing
+//! else.
 #![tactic(auto)]
 
 mod device;

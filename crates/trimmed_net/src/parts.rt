@@ -1,8 +1,10 @@
 // Copies of the parts of a network that have no room to spare.
 ghost use Rattle.std.specs.Prelude.{◌≡◌, map, IfOk};
 ghost use Rattle.ij_bits.specs.Room.{full};
-ghost use Rattle.icl_signals.specs.PlainNets.{seen_reg, seen_row, seen_mux, seen_input, seen_output, seen_inst, seen_node, seen_thing};
-ghost use Rattle.trimmed_net.specs.Trimmed.{trimmed_reg, trimmed_row, trimmed_mux, trimmed_input, trimmed_output, trimmed_inst, trimmed_node, trimmed_thing};
+ghost use Rattle.icl_signals.specs.PlainNets.{seen_reg, seen_row, seen_mux, seen_input, seen_output};
+ghost use Rattle.icl_signals.specs.PlainNets.{seen_inst, seen_node, seen_thing};
+ghost use Rattle.trimmed_net.specs.Trimmed.{trimmed_reg, trimmed_row, trimmed_mux, trimmed_input};
+ghost use Rattle.trimmed_net.specs.Trimmed.{trimmed_output, trimmed_inst, trimmed_node, trimmed_thing};
 
 use crate::lists::{list_copy, list_for, list_trimmed, names_copy};
 use crate::terns::{tern_copy, terns_copy, words_copy};

@@ -6,4 +6,10 @@ use Rattle.headline.proofs.Texts.{texts_are_one}
 use Rattle.headline.proofs.planned_steps_law.Goals as goal
 
 pub returns : goal.returns
-returns c = record { scripts = plans_are_scripts; play = plans_play; right = plans_are_right; one = scripts_are_one; texts = texts_are_one }
+returns c = record {
+  scripts = plans_are_scripts;
+  play = plans_play;
+  right = plans_are_right;
+  one = scripts_are_one;
+  texts = texts_are_one;
+}

@@ -13,7 +13,8 @@ loop-i-preserved c =
     let within : i < length net.insts.items = omega (arith, c.loop-i-test.true, c.len-i-end.ensures) in
     let none = not_some c.inst_misfit-fault.result (sym c.is_some.ensures ∙ c.if-is_some.false) in
     let found = c.table_named.ensures ∙ ap (table_named ts) c.inst_path.ensures in
-    let fits : inst_misfit i inst (table_named ts (inst_path net inst)) ≡ None = ap (inst_misfit i inst) (sym found) ∙ sym c.inst_misfit-fault.ensures ∙ none in
+    let fits : inst_misfit i inst (table_named ts (inst_path net inst))
+    ≡ None = ap (inst_misfit i inst) (sym found) ∙ sym c.inst_misfit-fault.ensures ∙ none in
     one_more net ts i net.insts.items inst within c.get-inst.ensures fits ∙ c.loop-i.invariant
 
 pub returns-then-is_some : goal.returns-then-is_some
@@ -24,5 +25,7 @@ returns-then-is_some c =
     let inst = c.get-inst.result.now in
     let within : i < length net.insts.items = omega (arith, c.loop-i-test.true, c.len-i-end.ensures) in
     let found = c.table_named.ensures ∙ ap (table_named ts) c.inst_path.ensures in
-    let is : c.inst_misfit-fault.result ≡ inst_misfit i inst (table_named ts (inst_path net inst)) = c.inst_misfit-fault.ensures ∙ ap (inst_misfit i inst) found in
-    sym (one_misfit net ts i net.insts.items inst within c.get-inst.ensures c.inst_misfit-fault.result is (sym c.is_some.ensures ∙ c.if-is_some.true)) ∙ c.loop-i.invariant
+    let is : c.inst_misfit-fault.result ≡ inst_misfit i inst (table_named ts (inst_path net inst)) =
+    c.inst_misfit-fault.ensures ∙ ap (inst_misfit i inst) found in
+    sym (one_misfit net ts i net.insts.items inst within c.get-inst.ensures c.inst_misfit-fault.result is
+    (sym c.is_some.ensures ∙ c.if-is_some.true)) ∙ c.loop-i.invariant

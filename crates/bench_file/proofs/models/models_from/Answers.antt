@@ -14,10 +14,15 @@ loop-i-preserved c =
     let inst = c.get-inst.result.now in
     let within : c.loop-i.i < length net.insts.items = grind arith in
     let is : inst ≡ get_or net.insts.items c.loop-i.i inst = grind arith in
-    let found : option_map (λ t. seen_table t.now) c.table_named-table.result ≡ table_named ts (inst_path net inst) = grind arith in
+    let found : option_map (λ t. seen_table t.now) c.table_named-table.result
+    ≡ table_named ts (inst_path net inst) = grind arith in
     record {
-      same = subst (λ (ms : List Model). with_front (map seen_model ms) (models_from net ts (c.loop-i.i + 1) (drop (c.loop-i.i + 1) net.insts.items)) ≡ models_from net ts 0 net.insts.items) (sym c.push_reserved.ensures.items)
-          (one_more_model net ts c.loop-i.i net.insts.items inst within is c.loop-i.models.items c.in_ok-model_for.field-0 (c.loop-i.i + 1) _ _ (omega arith) found c.in_ok-model_for.ensures c.loop-i.invariant.same);
+      same = subst (λ (ms : List Model). with_front (map seen_model ms)
+          (models_from net ts (c.loop-i.i + 1) (drop (c.loop-i.i + 1) net.insts.items))
+          ≡ models_from net ts 0 net.insts.items) (sym c.push_reserved.ensures.items)
+          (one_more_model net ts c.loop-i.i net.insts.items inst within is c.loop-i.models.items
+          c.in_ok-model_for.field-0 (c.loop-i.i + 1) _ _
+          (omega arith) found c.in_ok-model_for.ensures c.loop-i.invariant.same);
       room = omega (arith, c.push_reserved.ensures.spare, c.loop-i.invariant.room);
     }
 
@@ -28,6 +33,8 @@ returns-in_err-model_for c =
     let inst = c.get-inst.result.now in
     let within : c.loop-i.i < length net.insts.items = grind arith in
     let is : inst ≡ get_or net.insts.items c.loop-i.i inst = grind arith in
-    let found : option_map (λ t. seen_table t.now) c.table_named-table.result ≡ table_named ts (inst_path net inst) = grind arith in
-    let fails = fails_here net ts c.loop-i.i net.insts.items inst within is c.loop-i.models.items _ _ c.in_err-model_for.field-0.0 found c.in_err-model_for.ensures c.loop-i.invariant.same in
+    let found : option_map (λ t. seen_table t.now) c.table_named-table.result
+    ≡ table_named ts (inst_path net inst) = grind arith in
+    let fails = fails_here net ts c.loop-i.i net.insts.items inst within is c.loop-i.models.items _ _
+    c.in_err-model_for.field-0.0 found c.in_err-model_for.ensures c.loop-i.invariant.same in
     grind (arith, fails)

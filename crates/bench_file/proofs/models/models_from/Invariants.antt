@@ -7,6 +7,8 @@ use Rattle.bench_file.proofs.models.models_from.Given as goal
 
 abbrev pub invariant-loop-i : goal.invariant-loop-i
 invariant-loop-i l = record {
-  same : with_front (map seen_model l.models.items) (models_from l.net (map seen_table l.tables) l.i (drop l.i l.net.insts.items)) ≡ models_from l.net (map seen_table l.tables) 0 l.net.insts.items;
+  same : with_front (map seen_model l.models.items)
+      (models_from l.net (map seen_table l.tables) l.i (drop l.i l.net.insts.items))
+      ≡ models_from l.net (map seen_table l.tables) 0 l.net.insts.items;
   room : length l.net.insts.items ≤ l.models.spare + l.i;
 }

@@ -5,4 +5,5 @@ use Rattle.bench_file.proofs.moving.find_port.Given as goal
 
 abbrev pub invariant-loop-i : goal.invariant-loop-i
 invariant-loop-i l =
-    named_from l.i l.name (input_names (map in_port (drop l.i l.ports))) ≡ named l.name (input_names (map in_port l.ports))
+    named_from l.i l.name (input_names (map in_port (drop l.i l.ports)))
+    ≡ named l.name (input_names (map in_port l.ports))

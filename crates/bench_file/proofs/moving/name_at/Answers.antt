@@ -7,4 +7,5 @@ use Rattle.bench_file.proofs.moving.name_at.Goals as goal
 pub returns-then-k-ins : goal.returns-then-k-ins
 returns-then-k-ins c =
     c.as_slice.ensures ∙ ap (λ (d : PortDef). d.name.items) (sym c.index-ins-k.is)
-    ∙ seen_at (λ (d : SeenPort). d.name) seen_port c.args.ins.now c.args.k c.index-ins-k.result [] c.if-k-ins.true c.index-ins-k.is
+    ∙ seen_at (λ (d : SeenPort). d.name) seen_port c.args.ins.now c.args.k c.index-ins-k.result
+    [] c.if-k-ins.true c.index-ins-k.is

@@ -12,7 +12,8 @@ invariant-loop-played g l =
     record {
       same : l.bench ≡ record l.fn.bench { state = l.bench.state };
       after : after_pins chip l.player.pins l.bench.state ≡ after_pins chip l.fn.player.pins l.fn.bench.state;
-      front : (ns : Names) → g.N.ReadNames.AreNames l.fn.names ns → AddsFront (g.K.Sink.taken l.fn.k) (g.K.Sink.taken l.k) (named_lines ns left) (named_lines ns all);
+      front : (ns : Names) → g.N.ReadNames.AreNames l.fn.names ns
+          → AddsFront (g.K.Sink.taken l.fn.k) (g.K.Sink.taken l.k) (named_lines ns left) (named_lines ns all);
       names : (ns : Names) → g.N.ReadNames.AreNames l.fn.names ns → g.N.ReadNames.AreNames l.names ns;
       clocks : l.clocks + length l.player.pins ≡ length l.fn.player.pins;
       differs : l.differs + length left ≡ length all;

@@ -22,11 +22,21 @@ loop-i-preserved g c =
     let here = compare_of p.expect p.scan p.bit f in
     let left = pin_compares (drop i ps) (drop i fs) in
     let rest = pin_compares (drop (i + 1) ps) (drop (i + 1) fs) in
-    let step : left ≡ here ++ rest = compares_step p (drop (i + 1) ps) (drop i ps) f (drop (i + 1) fs) (drop i fs) c.at.ensures c.found_at.ensures in
+    let step : left ≡ here ++ rest = compares_step p (drop (i + 1) ps) (drop i ps) f (drop (i + 1) fs)
+    (drop i fs) c.at.ensures c.found_at.ensures in
     record {
-      front = λ ns are. let all = named_lines ns (differing (piece_compares played)) in front_next (named_lines ns (differing here)) (named_lines ns (differing rest)) (subst (λ (text : List ℕ). AddsFront (g.K.Sink.taken c.args.k.now) (g.K.Sink.taken c.loop-i.k) text all) (lines_here left here rest step ns) (c.loop-i.invariant.front ns are)) (c.in_ok-differs.ensures.whole ns (c.loop-i.invariant.names ns are));
+      front = λ ns are. let all = named_lines ns (differing (piece_compares played)) in
+          front_next (named_lines ns (differing here)) (named_lines ns (differing rest)) (subst
+          (λ (text : List ℕ). AddsFront (g.K.Sink.taken c.args.k.now) (g.K.Sink.taken c.loop-i.k) text all)
+          (lines_here left here rest step ns) (c.loop-i.invariant.front ns are))
+          (c.in_ok-differs.ensures.whole ns (c.loop-i.invariant.names ns are));
       names = λ ns are. c.put_compare.ensures.names ns (c.loop-i.invariant.names ns are);
-      differs = omega (arith, count_here left here rest step, c.in_ok-differs.ensures.count, c.loop-i.invariant.differs);
+      differs = omega (
+        arith,
+        count_here left here rest step,
+        c.in_ok-differs.ensures.count,
+        c.loop-i.invariant.differs,
+      );
       later = omega (arith, c.put_compare.ensures.cause.later, c.loop-i.invariant.later);
     }
 
@@ -41,8 +51,16 @@ returns-in_err-differs-clause-part g c =
     let here = compare_of p.expect p.scan p.bit f in
     let left = pin_compares (drop i ps) (drop i fs) in
     let rest = pin_compares (drop (i + 1) ps) (drop (i + 1) fs) in
-    let step : left ≡ here ++ rest = compares_step p (drop (i + 1) ps) (drop i ps) f (drop (i + 1) fs) (drop i fs) c.at.ensures c.found_at.ensures in
-    let part : (ns : Names) → g.N.ReadNames.AreNames c.args.names.now ns → AddsPart (g.K.Sink.taken c.args.k.now) (g.K.Sink.taken c.put_compare.new.k) (named_lines ns (differing (piece_compares played))) = λ ns are. let all = named_lines ns (differing (piece_compares played)) in front_part (named_lines ns (differing here)) (named_lines ns (differing rest)) (subst (λ (text : List ℕ). AddsFront (g.K.Sink.taken c.args.k.now) (g.K.Sink.taken c.loop-i.k) text all) (lines_here left here rest step ns) (c.loop-i.invariant.front ns are)) (c.in_err-differs.ensures.part ns (c.loop-i.invariant.names ns are)) in
+    let step : left ≡ here ++ rest = compares_step p (drop (i + 1) ps) (drop i ps) f (drop (i + 1) fs)
+    (drop i fs) c.at.ensures c.found_at.ensures in
+    let part : (ns : Names) → g.N.ReadNames.AreNames c.args.names.now ns
+    → AddsPart (g.K.Sink.taken c.args.k.now) (g.K.Sink.taken c.put_compare.new.k)
+    (named_lines ns (differing (piece_compares played))) = λ ns are.
+    let all = named_lines ns (differing (piece_compares played)) in
+    front_part (named_lines ns (differing here)) (named_lines ns (differing rest)) (subst
+    (λ (text : List ℕ). AddsFront (g.K.Sink.taken c.args.k.now) (g.K.Sink.taken c.loop-i.k) text all)
+    (lines_here left here rest step ns) (c.loop-i.invariant.front ns are))
+    (c.in_err-differs.ensures.part ns (c.loop-i.invariant.names ns are)) in
     at_refusal c.from_residual.result part
 
 pub overflow_add-differs : goal.overflow_add-differs
@@ -53,22 +71,36 @@ overflow_add-differs g c =
     let fs = bits_of played.piece.count played.found in
     let p = c.at.result in
     let f = c.found_at.result in
-    let step = compares_step p (drop (i + 1) ps) (drop i ps) f (drop (i + 1) fs) (drop i fs) c.at.ensures c.found_at.ensures in
-    let count = count_here (pin_compares (drop i ps) (drop i fs)) (compare_of p.expect p.scan p.bit f) (pin_compares (drop (i + 1) ps) (drop (i + 1) fs)) step in
-    omega (arith, count, c.in_ok-differs.ensures.count, c.loop-i.invariant.differs, few_compare ps fs, length-piece_pins played.piece, c.requires.few)
+    let step = compares_step p (drop (i + 1) ps) (drop i ps) f (drop (i + 1) fs)
+    (drop i fs) c.at.ensures c.found_at.ensures in
+    let count = count_here (pin_compares (drop i ps) (drop i fs)) (compare_of p.expect p.scan p.bit f)
+    (pin_compares (drop (i + 1) ps) (drop (i + 1) fs)) step in
+    omega (
+      arith,
+      count,
+      c.in_ok-differs.ensures.count,
+      c.loop-i.invariant.differs,
+      few_compare ps fs,
+      length-piece_pins played.piece,
+      c.requires.few,
+    )
 
 pub returns-after-loop-i-clause-whole : goal.returns-after-loop-i-clause-whole
 returns-after-loop-i-clause-whole g c ns are =
     let played = c.args.played.now in
     let ps = piece_pins played.piece in
-    let all : length ps ≡ c.loop-i.i = omega (arith, length-piece_pins played.piece, c.loop-i-test.false, c.loop-i.auto.i-end) in
+    let all : length ps ≡ c.loop-i.i =
+    omega (arith, length-piece_pins played.piece, c.loop-i-test.false, c.loop-i.auto.i-end) in
     let none = compares_end ps (drop c.loop-i.i (bits_of played.piece.count played.found)) c.loop-i.i all in
-    front_all (subst (λ cs. AddsFront (g.K.Sink.taken c.args.k.now) (g.K.Sink.taken c.loop-i.k) (named_lines ns (differing cs)) (named_lines ns (differing (piece_compares played)))) none (c.loop-i.invariant.front ns are))
+    front_all (subst (λ cs. AddsFront (g.K.Sink.taken c.args.k.now) (g.K.Sink.taken c.loop-i.k)
+    (named_lines ns (differing cs)) (named_lines ns (differing (piece_compares played)))) none
+    (c.loop-i.invariant.front ns are))
 
 pub returns-after-loop-i-clause-count : goal.returns-after-loop-i-clause-count
 returns-after-loop-i-clause-count g c =
     let played = c.args.played.now in
     let ps = piece_pins played.piece in
-    let all : length ps ≡ c.loop-i.i = omega (arith, length-piece_pins played.piece, c.loop-i-test.false, c.loop-i.auto.i-end) in
+    let all : length ps ≡ c.loop-i.i =
+    omega (arith, length-piece_pins played.piece, c.loop-i-test.false, c.loop-i.auto.i-end) in
     let none = compares_end ps (drop c.loop-i.i (bits_of played.piece.count played.found)) c.loop-i.i all in
     omega (arith, ap (λ cs. length (differing cs)) none, c.loop-i.invariant.differs)

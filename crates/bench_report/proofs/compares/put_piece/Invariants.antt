@@ -16,7 +16,8 @@ invariant-loop-i g l =
     let left = differing (pin_compares (drop l.i ps) (drop l.i fs)) in
     let all = differing (piece_compares played) in
     record {
-      front : (ns : Names) → g.N.ReadNames.AreNames l.fn.names ns → AddsFront (g.K.Sink.taken l.fn.k) (g.K.Sink.taken l.k) (named_lines ns left) (named_lines ns all);
+      front : (ns : Names) → g.N.ReadNames.AreNames l.fn.names ns
+          → AddsFront (g.K.Sink.taken l.fn.k) (g.K.Sink.taken l.k) (named_lines ns left) (named_lines ns all);
       names : (ns : Names) → g.N.ReadNames.AreNames l.fn.names ns → g.N.ReadNames.AreNames l.names ns;
       differs : l.differs + length left ≡ length all;
       later : g.K.Sink.faults l.fn.k ≤ g.K.Sink.faults l.k;

@@ -14,8 +14,17 @@ overflow_add-differs c =
     let here = piece_compares c.in-Some.played in
     let later = compares chip c.play.new.player.pins c.play.new.self.state in
     let same : chip_of c.loop-played.bench ≡ chip = ap chip_of c.loop-played.invariant.same in
-    let given : left ≡ here ++ later = subst (λ d. compares d c.loop-played.player.pins s ≡ here ++ compares d c.play.new.player.pins c.play.new.self.state) same c.in-Some.ensures.compares in
-    omega (arith, few_differ chip c.args.player.now.pins c.args.bench.now.state, count_here left here later given, c.differs_in-differs.ensures, c.loop-played.invariant.differs, c.requires)
+    let given : left ≡ here ++ later = subst (λ d. compares d c.loop-played.player.pins s
+    ≡ here ++ compares d c.play.new.player.pins c.play.new.self.state) same c.in-Some.ensures.compares in
+    omega (
+      arith,
+      few_differ chip c.args.player.now.pins c.args.bench.now.state,
+      count_here left here later
+          given,
+      c.differs_in-differs.ensures,
+      c.loop-played.invariant.differs,
+      c.requires,
+    )
 
 pub overflow_add-clocks : goal.overflow_add-clocks
 overflow_add-clocks c = omega (arith, c.in-Some.ensures.clocks, c.loop-played.invariant.clocks, c.requires)
@@ -29,9 +38,16 @@ loop-played-preserved c =
     let here = piece_compares c.in-Some.played in
     let later = compares chip c.play.new.player.pins t in
     let same : chip_of c.loop-played.bench ≡ chip = ap chip_of c.loop-played.invariant.same in
-    let given : left ≡ here ++ later = subst (λ d. compares d c.loop-played.player.pins s ≡ here ++ compares d c.play.new.player.pins t) same c.in-Some.ensures.compares in
+    let given : left ≡ here ++ later = subst (λ d. compares d c.loop-played.player.pins s
+    ≡ here ++ compares d c.play.new.player.pins t) same c.in-Some.ensures.compares in
     record {
-      same = same_step c.play.new.self c.loop-played.bench c.args.bench.now _ c.in-Some.ensures.bench c.loop-played.invariant.same;
+      same = same_step c.play.new.self c.loop-played.bench c.args.bench.now _
+          c.in-Some.ensures.bench c.loop-played.invariant.same;
       clocks = omega (arith, c.in-Some.ensures.clocks, c.loop-played.invariant.clocks);
-      differs = omega (arith, count_here left here later given, c.differs_in-differs.ensures, c.loop-played.invariant.differs);
+      differs = omega (
+        arith,
+        count_here left here later given,
+        c.differs_in-differs.ensures,
+        c.loop-played.invariant.differs,
+      );
     }

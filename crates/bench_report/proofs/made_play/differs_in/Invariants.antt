@@ -11,4 +11,7 @@ invariant-loop-i l =
     let played = l.played in
     let ps : List Pins = piece_pins played.piece in
     let fs : List Bool = bits_of played.piece.count played.found in
-    record { differs : l.differs + length (differing (pin_compares (drop l.i ps) (drop l.i fs))) ≡ length (differing (piece_compares played)) }
+    record {
+      differs : l.differs + length (differing (pin_compares (drop l.i ps) (drop l.i fs)))
+          ≡ length (differing (piece_compares played));
+    }

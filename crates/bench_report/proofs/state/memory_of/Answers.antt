@@ -11,5 +11,6 @@ loop-i-preserved c =
     let room : i < length xs = omega (arith, c.loop-i-test.true, c.loop-i.invariant.wide) in
     record {
       wide = length-set xs i c.mem.result ∙ c.loop-i.invariant.wide;
-      each = one_more xs (inner_at c.args.bench.now.state.insts c.args.inst).memory i c.mem.result room c.mem.ensures c.loop-i.invariant.each;
+      each = one_more xs (inner_at c.args.bench.now.state.insts c.args.inst).memory i c.mem.result
+          room c.mem.ensures c.loop-i.invariant.each;
     }

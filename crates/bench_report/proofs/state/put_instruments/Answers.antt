@@ -17,8 +17,11 @@ returns-in_err-put_one-clause-part g c =
     let next : i + 1 ≡ suc i = omega arith in
     let here = insts_next net insts ms i (i + 1) m within c.get.ensures next in
     at_refusal c.from_residual.result
-    (front_part (inst_text net insts i (seen_model m)) (instruments_from net insts (i + 1) (drop (i + 1) (map seen_model ms)))
-    (subst (λ (rest : List ℕ). AddsFront (g.K.Sink.taken c.args.k.now) (g.K.Sink.taken c.loop-i.k) rest (instruments_text net (map seen_model ms) insts)) here c.loop-i.invariant.front) c.in_err-put_one.ensures.part)
+    (front_part (inst_text net insts i (seen_model m))
+    (instruments_from net insts (i + 1) (drop (i + 1) (map seen_model ms)))
+    (subst (λ (rest : List ℕ). AddsFront (g.K.Sink.taken c.args.k.now) (g.K.Sink.taken c.loop-i.k) rest
+    (instruments_text net (map seen_model ms) insts)) here c.loop-i.invariant.front)
+    c.in_err-put_one.ensures.part)
 
 pub loop-i-preserved : goal.loop-i-preserved
 loop-i-preserved g c =
@@ -31,7 +34,10 @@ loop-i-preserved g c =
     let next : i + 1 ≡ suc i = omega arith in
     let here = insts_next net insts ms i (i + 1) m within c.get.ensures next in
     record {
-      front = front_next (inst_text net insts i (seen_model m)) (instruments_from net insts (i + 1) (drop (i + 1) (map seen_model ms)))
-          (subst (λ (rest : List ℕ). AddsFront (g.K.Sink.taken c.args.k.now) (g.K.Sink.taken c.loop-i.k) rest (instruments_text net (map seen_model ms) insts)) here c.loop-i.invariant.front) c.in_ok-put_one.ensures.whole;
+      front = front_next (inst_text net insts i (seen_model m))
+          (instruments_from net insts (i + 1) (drop (i + 1) (map seen_model ms)))
+          (subst (λ (rest : List ℕ). AddsFront (g.K.Sink.taken c.args.k.now) (g.K.Sink.taken c.loop-i.k) rest
+          (instruments_text net (map seen_model ms) insts)) here c.loop-i.invariant.front)
+          c.in_ok-put_one.ensures.whole;
       later = omega (arith, c.put_one.ensures.cause.later);
     }

@@ -7,8 +7,12 @@ use Rattle.design_maker.proofs.modules.add_client_side.Goals as goal
 
 pub returns : goal.returns
 returns c =
-    let output = added_as _ _ c.in_ok-sourced.ensures (ap (sourced ScanOutPort (codes "SO")) c.in_ok-signal.ensures) in
+    let output = added_as _ _ c.in_ok-sourced.ensures
+    (ap (sourced ScanOutPort (codes "SO")) c.in_ok-signal.ensures) in
     on_ok_weaker c.interface.result
-    (λ last. then_more _ _ _ _ _ c.in_ok-port.ensures (then_more _ _ _ _ _ c.in_ok-port-2.ensures (then_more _ _ _ _ _ c.in_ok-port-3.ensures (then_more _ _ _ _ _ c.in_ok-port-4.ensures (then_more _ _ _ _ _ c.in_ok-port-5.ensures
-    (then_more _ _ _ _ _ c.in_ok-port_with.ensures (then_more _ _ _ _ _ c.in_ok-port-6.ensures (then_more _ _ _ _ _ output last))))))))
+    (λ last. then_more _ _ _ _ _ c.in_ok-port.ensures
+    (then_more _ _ _ _ _ c.in_ok-port-2.ensures (then_more _ _ _ _ _ c.in_ok-port-3.ensures
+    (then_more _ _ _ _ _ c.in_ok-port-4.ensures (then_more _ _ _ _ _ c.in_ok-port-5.ensures
+    (then_more _ _ _ _ _ c.in_ok-port_with.ensures
+    (then_more _ _ _ _ _ c.in_ok-port-6.ensures (then_more _ _ _ _ _ output last))))))))
     c.interface.ensures

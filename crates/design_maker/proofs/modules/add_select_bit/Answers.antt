@@ -10,7 +10,11 @@ pub returns : goal.returns
 returns c =
     let capture = alone seen_sig c.in_ok-one.ensures c.in_ok-signal-2.ensures in
     let none = ap (map seen_prop) c.new-props.ensures in
-    let source = pushed seen_prop c.new-props.result.items none c.in_ok-push.ensures.ok (ap AScanInSource c.in_ok-signal.ensures) in
-    let captured = pushed seen_prop c.push.new.self.items source c.in_ok-push-2.ensures.ok (ap ACaptureSource capture) in
-    let props = pushed seen_prop c.push-2.new.self.items captured c.in_ok-push-3.ensures.ok (ap AResetValue c.in_ok-sized.ensures) in
-    on_ok_weaker c.add.result (λ added. added_as _ _ added (ap (λ ps. item (codes "SR") (ARegister None ps)) props)) c.add.ensures
+    let source = pushed seen_prop c.new-props.result.items none c.in_ok-push.ensures.ok
+    (ap AScanInSource c.in_ok-signal.ensures) in
+    let captured =
+    pushed seen_prop c.push.new.self.items source c.in_ok-push-2.ensures.ok (ap ACaptureSource capture) in
+    let props = pushed seen_prop c.push-2.new.self.items captured c.in_ok-push-3.ensures.ok
+    (ap AResetValue c.in_ok-sized.ensures) in
+    on_ok_weaker c.add.result
+    (λ added. added_as _ _ added (ap (λ ps. item (codes "SR") (ARegister None ps)) props)) c.add.ensures

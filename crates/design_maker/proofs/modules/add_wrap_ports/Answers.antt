@@ -10,5 +10,6 @@ returns c =
     let source = c.in_ok-source.ensures ∙ ap (λ r. ranged (codes "R" ∷ []) (Some r)) c.in_ok-lowest.ensures in
     let output = added_as _ _ c.in_ok-sourced.ensures (ap (sourced ScanOutPort (codes "SO")) source) in
     on_ok_weaker c.interface.result
-    (λ last. then_more _ _ _ _ _ c.in_ok-port.ensures (then_more _ _ _ _ _ c.in_ok-port-2.ensures (then_more _ _ _ _ _ c.in_ok-port-3.ensures (then_more _ _ _ _ _ output last))))
+    (λ last. then_more _ _ _ _ _ c.in_ok-port.ensures (then_more _ _ _ _ _ c.in_ok-port-2.ensures
+    (then_more _ _ _ _ _ c.in_ok-port-3.ensures (then_more _ _ _ _ _ output last))))
     c.interface.ensures

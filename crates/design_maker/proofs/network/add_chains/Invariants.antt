@@ -6,4 +6,5 @@ use Rattle.design_maker.proofs.network.add_chains.Given as goal
 
 abbrev pub invariant-loop-i : goal.invariant-loop-i
 invariant-loop-i l =
-    seen_items l.items ++ numbered chain_items (l.i + 1) (drop l.i l.instruments.items) ≡ seen_items l.fn.items ++ numbered chain_items 1 l.instruments.items
+    seen_items l.items ++ numbered chain_items (l.i + 1) (drop l.i l.instruments.items)
+    ≡ seen_items l.fn.items ++ numbered chain_items 1 l.instruments.items

@@ -11,4 +11,5 @@ loop-j-preserved c =
     let sibs = c.args.sibs in
     let j = c.loop-j.j in
     ap (λ l. l ++ sib_items i sibs (j + 1 + 1) (sibs - (j + 1))) c.in_ok-add_sib.ensures
-    ∙ sibs_next i sibs j (sibs - j) (sibs - (j + 1)) (seen_items c.loop-j.items) (seen_items c.args.items.now ++ sib_items i sibs 1 sibs) (omega arith) c.loop-j.invariant
+    ∙ sibs_next i sibs j (sibs - j) (sibs - (j + 1)) (seen_items c.loop-j.items)
+    (seen_items c.args.items.now ++ sib_items i sibs 1 sibs) (omega arith) c.loop-j.invariant

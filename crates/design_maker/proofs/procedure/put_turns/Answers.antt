@@ -15,6 +15,8 @@ loop-i-preserved c =
     let some : n ≡ suc m = omega (arith, c.loop-i-test.true, c.len-i-end.ensures) in
     record {
       text = ap (λ l. l ++ turns_text m ys c.draw_turn-turn.new.g) c.in_ok-put_turn.ensures
-          ∙ turn_next n m xs ys c.loop-i.g c.draw_turn-turn.new.g t word c.loop-i.pdl (c.args.pdl.now ++ turns_text all c.args.instruments.now.items c.args.g.now) some c.draw_turn-turn.ensures.drawn c.do_turn-word.ensures.state c.do_turn-word.ensures.word c.loop-i.invariant.text;
+          ∙ turn_next n m xs ys c.loop-i.g c.draw_turn-turn.new.g t word c.loop-i.pdl (c.args.pdl.now
+          ++ turns_text all c.args.instruments.now.items c.args.g.now) some c.draw_turn-turn.ensures.drawn
+          c.do_turn-word.ensures.state c.do_turn-word.ensures.word c.loop-i.invariant.text;
       count = same_count t xs ys c.do_turn-word.ensures.state ∙ c.loop-i.invariant.count;
     }

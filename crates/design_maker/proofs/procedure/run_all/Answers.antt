@@ -11,6 +11,7 @@ loop-i-preserved c =
     let x = c.get.result.now in
     let within : i < length xs = omega (arith, c.loop-i-test.true, c.len-i-end.ensures) in
     record {
-      items = c.set.ensures.items ∙ ap (set before i) c.run.ensures ∙ one_changed (run c.args.cycles) xs i (i + 1) x within (omega arith) before c.loop-i.invariant.items c.get.ensures;
+      items = c.set.ensures.items ∙ ap (set before i) c.run.ensures ∙ one_changed (run c.args.cycles) xs i
+          (i + 1) x within (omega arith) before c.loop-i.invariant.items c.get.ensures;
       count = ap length c.set.ensures.items ∙ length-set before i c.run.result ∙ c.loop-i.invariant.count;
     }

@@ -7,18 +7,21 @@ returns-clause-icl c =
     let a = c.args in
     let xs = c.in_ok-instruments.instruments.items in
     let g = c.draw_instruments.new.g in
-    c.in_ok-icl.ensures ∙ icl_is xs g a.seed a.size (drawn_is xs g c.generator-g.result a.seed a.size c.in_ok-instruments.ensures.drawn c.generator-g.ensures)
+    c.in_ok-icl.ensures ∙ icl_is xs g a.seed a.size (drawn_is xs g c.generator-g.result a.seed a.size
+    c.in_ok-instruments.ensures.drawn c.generator-g.ensures)
 
 pub returns-clause-pdl : goal.returns-clause-pdl
 returns-clause-pdl c =
     let a = c.args in
     let xs = c.in_ok-instruments.instruments.items in
     let g = c.draw_instruments.new.g in
-    c.in_ok-pdl.ensures ∙ pdl_is xs g a.seed a.size (drawn_is xs g c.generator-g.result a.seed a.size c.in_ok-instruments.ensures.drawn c.generator-g.ensures)
+    c.in_ok-pdl.ensures ∙ pdl_is xs g a.seed a.size (drawn_is xs g c.generator-g.result a.seed a.size
+    c.in_ok-instruments.ensures.drawn c.generator-g.ensures)
 
 pub returns-clause-tables : goal.returns-clause-tables
 returns-clause-tables c =
     let a = c.args in
     let xs = c.in_ok-instruments.instruments.items in
     let g = c.draw_instruments.new.g in
-    c.in_ok-tables.ensures ∙ tables_are xs g a.seed a.size (drawn_is xs g c.generator-g.result a.seed a.size c.in_ok-instruments.ensures.drawn c.generator-g.ensures)
+    c.in_ok-tables.ensures ∙ tables_are xs g a.seed a.size (drawn_is xs g c.generator-g.result a.seed a.size
+    c.in_ok-instruments.ensures.drawn c.generator-g.ensures)

@@ -8,6 +8,8 @@ abbrev pub invariant-loop-reg : goal.invariant-loop-reg
 invariant-loop-reg g l =
     let found = found_all l.values l.reads in
     record {
-      front : AddsFront (g.K.Sink.taken l.fn.k) (g.K.Sink.taken l.k) (lines (reads_on found (bits_of_registers l.net l.reg (length l.net.regs.items - l.reg)))) (lines (in_order l.net found));
+      front : AddsFront (g.K.Sink.taken l.fn.k) (g.K.Sink.taken l.k)
+          (lines (reads_on found (bits_of_registers l.net l.reg (length l.net.regs.items - l.reg))))
+          (lines (in_order l.net found));
       later : g.K.Sink.faults l.fn.k ≤ g.K.Sink.faults l.k;
     }

@@ -26,8 +26,12 @@ returns-in_err-put_marked-clause-part g c =
     let left : c.args.width - pos ≡ suc (c.args.width - (pos + 1)) = omega (arith, c.loop-pos-test.true) in
     let next : pos + 1 ≡ suc pos = omega arith in
     let rest = lines (reads_on found (bits_from reg (pos + 1) (c.args.width - (pos + 1)))) in
-    let here = next_bit found reg pos (pos + 1) _ _ left next ∙ ap (λ (l : List ℕ). l ++ rest) (lines_at s reads b _ (c.requires.marks b) ∙ ap (λ (m : ℕ). lines (found_all s (marked reads m))) (sym c.get.ensures)) in
-    at_refusal _ (front_part _ rest (subst (λ (l : List ℕ). AddsFront (g.K.Sink.taken c.args.k.now) (g.K.Sink.taken c.loop-pos.k) l (lines (reads_on found (bits_from reg 0 c.args.width)))) here c.loop-pos.invariant.front) c.in_err-put_marked.ensures.part)
+    let here = next_bit found reg pos (pos + 1) _ _ left next
+    ∙ ap (λ (l : List ℕ). l ++ rest) (lines_at s reads b _ (c.requires.marks b)
+    ∙ ap (λ (m : ℕ). lines (found_all s (marked reads m))) (sym c.get.ensures)) in
+    at_refusal _ (front_part _ rest (subst (λ (l : List ℕ). AddsFront (g.K.Sink.taken c.args.k.now)
+    (g.K.Sink.taken c.loop-pos.k) l (lines (reads_on found (bits_from reg 0 c.args.width)))) here
+    c.loop-pos.invariant.front) c.in_err-put_marked.ensures.part)
 
 pub loop-pos-preserved : goal.loop-pos-preserved
 loop-pos-preserved g c =
@@ -40,8 +44,12 @@ loop-pos-preserved g c =
     let left : c.args.width - pos ≡ suc (c.args.width - (pos + 1)) = omega (arith, c.loop-pos-test.true) in
     let next : pos + 1 ≡ suc pos = omega arith in
     let rest = lines (reads_on found (bits_from reg (pos + 1) (c.args.width - (pos + 1)))) in
-    let here = next_bit found reg pos (pos + 1) _ _ left next ∙ ap (λ (l : List ℕ). l ++ rest) (lines_at s reads b _ (c.requires.marks b) ∙ ap (λ (m : ℕ). lines (found_all s (marked reads m))) (sym c.get.ensures)) in
+    let here = next_bit found reg pos (pos + 1) _ _ left next
+    ∙ ap (λ (l : List ℕ). l ++ rest) (lines_at s reads b _ (c.requires.marks b)
+    ∙ ap (λ (m : ℕ). lines (found_all s (marked reads m))) (sym c.get.ensures)) in
     record {
-      front = front_next _ rest (subst (λ (l : List ℕ). AddsFront (g.K.Sink.taken c.args.k.now) (g.K.Sink.taken c.loop-pos.k) l (lines (reads_on found (bits_from reg 0 c.args.width)))) here c.loop-pos.invariant.front) c.in_ok-put_marked.ensures.whole;
+      front = front_next _ rest (subst (λ (l : List ℕ). AddsFront (g.K.Sink.taken c.args.k.now)
+          (g.K.Sink.taken c.loop-pos.k) l (lines (reads_on found (bits_from reg 0 c.args.width)))) here
+          c.loop-pos.invariant.front) c.in_ok-put_marked.ensures.whole;
       later = omega (arith, c.put_marked.ensures.cause.later, c.loop-pos.invariant.later);
     }

@@ -9,6 +9,8 @@ abbrev pub invariant-loop-pos : goal.invariant-loop-pos
 invariant-loop-pos g l =
     let found = found_all l.values l.reads in
     record {
-      front : AddsFront (g.K.Sink.taken l.fn.k) (g.K.Sink.taken l.k) (lines (reads_on found (bits_from l.reg l.pos (l.width - l.pos)))) (lines (reads_on found (bits_from l.reg 0 l.width)));
+      front : AddsFront (g.K.Sink.taken l.fn.k) (g.K.Sink.taken l.k)
+          (lines (reads_on found (bits_from l.reg l.pos (l.width - l.pos))))
+          (lines (reads_on found (bits_from l.reg 0 l.width)));
       later : g.K.Sink.faults l.fn.k ≤ g.K.Sink.faults l.k;
     }

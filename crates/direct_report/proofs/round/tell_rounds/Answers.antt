@@ -7,19 +7,28 @@ use Rattle.direct_report.proofs.round.tell_rounds.Goals as goal
 
 pub tell_round-requires-clause-group : goal.tell_round-requires-clause-group
 tell_round-requires-clause-group g c =
-    seen_next (IsGroup c.args.net.now) c.args.rounds.now c.group-item.result c.loop-group.group-index c.requires.groups c.loop-group-test.true c.group-item.is
+    seen_next (IsGroup c.args.net.now) c.args.rounds.now c.group-item.result c.loop-group.group-index
+    c.requires.groups c.loop-group-test.true c.group-item.is
 
 pub returns-in_err-told-clause-part : goal.returns-in_err-told-clause-part
 returns-in_err-told-clause-part g c d stands =
     let v = c.loop-group.invariant in
-    at_refusal _ (refused c.args.net.now c.args.values.now.models c.args.values.now c.args.rounds.now (g.K.Sink.taken c.args.k.now) c.loop-group.group-index c.loop-group.values c.loop-group.reads c.loop-group.differs (g.K.Sink.taken c.loop-group.k) v.go c.group-item.result c.loop-group-test.true c.group-item.is v.net v.models (g.K.Sink.taken c.tell_round.new.k) c.in_err-told.ensures.part d stands)
+    at_refusal _ (refused c.args.net.now c.args.values.now.models c.args.values.now c.args.rounds.now
+    (g.K.Sink.taken c.args.k.now) c.loop-group.group-index c.loop-group.values c.loop-group.reads
+    c.loop-group.differs (g.K.Sink.taken c.loop-group.k) v.go c.group-item.result
+    c.loop-group-test.true c.group-item.is v.net v.models
+    (g.K.Sink.taken c.tell_round.new.k) c.in_err-told.ensures.part d stands)
 
 pub loop-group-preserved : goal.loop-group-preserved
 loop-group-preserved g c =
     let v = c.loop-group.invariant in
     let e = c.in_ok-told.ensures in
     record {
-      go = go_on c.args.net.now c.args.values.now.models c.args.values.now c.args.rounds.now (g.K.Sink.taken c.args.k.now) c.loop-group.group-index c.loop-group.values c.loop-group.reads c.loop-group.differs (g.K.Sink.taken c.loop-group.k) v.go c.group-item.result c.loop-group-test.true c.group-item.is v.net v.models c.tell_round.new.values c.in_ok-told.told.reads c.in_ok-told.told.differs (g.K.Sink.taken c.tell_round.new.k) e.whole e.state e.reads e.differs;
+      go = go_on c.args.net.now c.args.values.now.models c.args.values.now c.args.rounds.now
+          (g.K.Sink.taken c.args.k.now) c.loop-group.group-index c.loop-group.values c.loop-group.reads
+          c.loop-group.differs (g.K.Sink.taken c.loop-group.k) v.go c.group-item.result c.loop-group-test.true
+          c.group-item.is v.net v.models c.tell_round.new.values c.in_ok-told.told.reads
+          c.in_ok-told.told.differs (g.K.Sink.taken c.tell_round.new.k) e.whole e.state e.reads e.differs;
       net = c.tell_round.ensures.net ∙ v.net;
       models = c.tell_round.ensures.models ∙ v.models;
       blank = c.tell_round.ensures.blank;
@@ -31,12 +40,18 @@ loop-group-preserved g c =
 
 pub returns-clause-whole : goal.returns-clause-whole
 returns-clause-whole g c d stands =
-    whole c.args.net.now c.args.values.now.models c.args.values.now c.args.rounds.now (g.K.Sink.taken c.args.k.now) c.loop-group.group-index c.loop-group.values c.loop-group.reads c.loop-group.differs (g.K.Sink.taken c.loop-group.k) c.loop-group.invariant.go c.loop-group-test.false d stands
+    whole c.args.net.now c.args.values.now.models c.args.values.now c.args.rounds.now (g.K.Sink.taken
+    c.args.k.now) c.loop-group.group-index c.loop-group.values c.loop-group.reads c.loop-group.differs
+    (g.K.Sink.taken c.loop-group.k) c.loop-group.invariant.go c.loop-group-test.false d stands
 
 pub returns-clause-state : goal.returns-clause-state
 returns-clause-state g c d stands =
-    state c.args.net.now c.args.values.now.models c.args.values.now c.args.rounds.now (g.K.Sink.taken c.args.k.now) c.loop-group.group-index c.loop-group.values c.loop-group.reads c.loop-group.differs (g.K.Sink.taken c.loop-group.k) c.loop-group.invariant.go c.loop-group-test.false d stands
+    state c.args.net.now c.args.values.now.models c.args.values.now c.args.rounds.now (g.K.Sink.taken
+    c.args.k.now) c.loop-group.group-index c.loop-group.values c.loop-group.reads c.loop-group.differs
+    (g.K.Sink.taken c.loop-group.k) c.loop-group.invariant.go c.loop-group-test.false d stands
 
 pub returns-clause-counts : goal.returns-clause-counts
 returns-clause-counts g c d stands =
-    counts c.args.net.now c.args.values.now.models c.args.values.now c.args.rounds.now (g.K.Sink.taken c.args.k.now) c.loop-group.group-index c.loop-group.values c.loop-group.reads c.loop-group.differs (g.K.Sink.taken c.loop-group.k) c.loop-group.invariant.go c.loop-group-test.false d stands
+    counts c.args.net.now c.args.values.now.models c.args.values.now c.args.rounds.now (g.K.Sink.taken
+    c.args.k.now) c.loop-group.group-index c.loop-group.values c.loop-group.reads c.loop-group.differs
+    (g.K.Sink.taken c.loop-group.k) c.loop-group.invariant.go c.loop-group-test.false d stands

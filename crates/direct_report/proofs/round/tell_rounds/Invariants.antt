@@ -8,7 +8,8 @@ use Rattle.direct_report.proofs.round.tell_rounds.Given as goal
 abbrev pub invariant-loop-group : goal.invariant-loop-group
 invariant-loop-group g l =
     record {
-      go : Go l.net l.fn.values.models l.fn.values l.rounds (g.K.Sink.taken l.fn.k) l.group-index l.values l.reads l.differs (g.K.Sink.taken l.k);
+      go : Go l.net l.fn.values.models l.fn.values l.rounds
+          (g.K.Sink.taken l.fn.k) l.group-index l.values l.reads l.differs (g.K.Sink.taken l.k);
       net : l.values.net ≡ l.net;
       models : l.values.models ≡ l.fn.values.models;
       blank : AreBlank l.marks;

@@ -8,6 +8,8 @@ abbrev pub invariant-loop-i : goal.invariant-loop-i
 invariant-loop-i g l =
     let insts = l.values.insts in
     record {
-      front : AddsFront (g.K.Sink.taken l.fn.k) (g.K.Sink.taken l.k) (instruments_from l.net insts l.i (drop l.i (map seen_model l.models.items))) (instruments_text l.net (map seen_model l.models.items) insts);
+      front : AddsFront (g.K.Sink.taken l.fn.k) (g.K.Sink.taken l.k)
+          (instruments_from l.net insts l.i (drop l.i (map seen_model l.models.items)))
+          (instruments_text l.net (map seen_model l.models.items) insts);
       later : g.K.Sink.faults l.fn.k ≤ g.K.Sink.faults l.k;
     }

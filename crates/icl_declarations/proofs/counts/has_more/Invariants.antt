@@ -5,4 +5,6 @@ use Rattle.icl_declarations.specs.Parts.{is_not_of_instrument}
 use Rattle.icl_declarations.proofs.counts.has_more.Given as goal
 
 abbrev pub invariant-loop-item : goal.invariant-loop-item
-invariant-loop-item l = list_any (λ item. is_not_of_instrument item.what) (map seen_item (drop l.item-index l.items)) ≡ list_any (λ item. is_not_of_instrument item.what) (map seen_item l.items)
+invariant-loop-item l =
+    list_any (λ item. is_not_of_instrument item.what) (map seen_item (drop l.item-index l.items))
+    ≡ list_any (λ item. is_not_of_instrument item.what) (map seen_item l.items)

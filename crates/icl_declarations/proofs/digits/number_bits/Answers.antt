@@ -9,5 +9,7 @@ loop-i-preserved c =
     let both = length-append c.loop-i.bits (Some ((c.loop-i.rest % 2) == 1) ∷ []) in
     record {
       long = omega (arith, pushed, both, c.loop-i.invariant.long);
-      so_far = bit_more c.loop-i.bits c.push.new.self c.args.width c.loop-i._i c.loop-i.rest (map (λ b. Some b) (bits_of c.args.width c.args.n)) c.loop-i-test.true c.loop-i.invariant.so_far c.in_ok-push.ensures.ok;
+      so_far = bit_more c.loop-i.bits c.push.new.self c.args.width c.loop-i._i c.loop-i.rest
+          (map (λ b. Some b) (bits_of c.args.width c.args.n)) c.loop-i-test.true
+          c.loop-i.invariant.so_far c.in_ok-push.ensures.ok;
     }

@@ -9,10 +9,13 @@ never : {T E : Type 0} (t : T) (e : E) → ◌≡◌ {A = Result T E} (Ok t) (Er
 never t e h = absurd cc
 
 pub returns-in-Ok : goal.returns-in-Ok
-returns-in-Ok c = within c.args.width (tern_bits c.args.t) (tern_bits c.in-Ok.t) (λ w. never {E = FitFault} c.in-Ok.t _ (c.in-Ok.ensures.wide.1 w)) c.in-Ok.ensures.ok
+returns-in-Ok c = within c.args.width (tern_bits c.args.t) (tern_bits c.in-Ok.t)
+    (λ w. never {E = FitFault} c.in-Ok.t _ (c.in-Ok.ensures.wide.1 w)) c.in-Ok.ensures.ok
 
 pub returns-in-Err-Wide : goal.returns-in-Err-Wide
-returns-in-Err-Wide c = let known = c.in-Err-Wide.field-0-is in beyond c.args.width (tern_bits c.args.t) (c.in-Err-Wide.ensures.wide.0 (ap (λ (e : FitFault). failed e) known))
+returns-in-Err-Wide c =
+    let known = c.in-Err-Wide.field-0-is in beyond c.args.width (tern_bits c.args.t)
+    (c.in-Err-Wide.ensures.wide.0 (ap (λ (e : FitFault). failed e) known))
   where
     failed : FitFault → Result Tern FitFault
     failed e = Err e

@@ -12,11 +12,14 @@ loop-k-init c =
     record { long = long; small = omega arith; closed = ap are_closed start; value = sym (ap worth start) }
 
 pub returns-in-None : goal.returns-in-None
-returns-in-None c = met_open c.args.at (tern_bits c.args.t.now) c.loop-k.k c.len-len.result c.bit_at.result c.bit_at.ensures c.in-None.is
+returns-in-None c = met_open c.args.at
+    (tern_bits c.args.t.now) c.loop-k.k c.len-len.result c.bit_at.result c.bit_at.ensures c.in-None.is
 
 pub returns-then-n-ge2147483648 : goal.returns-then-n-ge2147483648
 returns-then-n-ge2147483648 c =
-    met_big c.args.at (tern_bits c.args.t.now) c.loop-k.k c.len-len.result c.loop-k.n c.loop-k.invariant.long c.loop-k-test.true c.loop-k.invariant.value c.if-n-ge2147483648.true
+    met_big c.args.at (tern_bits c.args.t.now) c.loop-k.k c.len-len.result c.loop-k.n c.loop-k.invariant.long
+    c.loop-k-test.true c.loop-k.invariant.value c.if-n-ge2147483648.true
 
 pub returns : goal.returns
-returns c = all_read c.args.at (tern_bits c.args.t.now) c.loop-k.k c.len-len.result c.loop-k.n c.loop-k-test.false c.loop-k.invariant.small c.loop-k.invariant.closed c.loop-k.invariant.value
+returns c = all_read c.args.at (tern_bits c.args.t.now) c.loop-k.k c.len-len.result c.loop-k.n
+    c.loop-k-test.false c.loop-k.invariant.small c.loop-k.invariant.closed c.loop-k.invariant.value

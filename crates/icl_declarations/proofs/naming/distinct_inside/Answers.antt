@@ -8,9 +8,11 @@ use Rattle.icl_declarations.proofs.naming.distinct_inside.Goals as goal
 pub returns-in-Words : goal.returns-in-Words
 returns-in-Words c =
     let e = ap (map (λ w. w.name.items)) c.as_slice.ensures ∙ word_names c.in-Words.words.items in
-    rw c.in-Words.is (subst (λ (names : List (List ℕ)). Gives (same {X = Unit {0}}) c.distinct_words.result (distinct c.args.item.now.at names)) e c.distinct_words.ensures)
+    rw c.in-Words.is (subst (λ (names : List (List ℕ)). Gives (same {X = Unit {0}}) c.distinct_words.result
+    (distinct c.args.item.now.at names)) e c.distinct_words.ensures)
 
 pub returns-in-Link : goal.returns-in-Link
 returns-in-Link c =
     let e = ap (map (λ i. i.name.items)) c.as_slice-in-Link.ensures ∙ instr_names c.in-Link.instrs.items in
-    rw c.in-Link.is (subst (λ (names : List (List ℕ)). Gives (same {X = Unit {0}}) c.distinct_instrs.result (distinct c.args.item.now.at names)) e c.distinct_instrs.ensures)
+    rw c.in-Link.is (subst (λ (names : List (List ℕ)). Gives (same {X = Unit {0}}) c.distinct_instrs.result
+    (distinct c.args.item.now.at names)) e c.distinct_instrs.ensures)

@@ -8,6 +8,9 @@ use Rattle.icl_declarations.proofs.naming.distinct_instrs.Given as goal
 
 abbrev pub invariant-loop-instr : goal.invariant-loop-instr
 invariant-loop-instr l = record {
-  seen : (name : List ℕ) → has_entry l.seen name ≡ list_any (bytes_eq name) (map (λ w. w.name.items) (take l.instr-index l.instrs));
-  goes_on : over (with_name l.at) (map (λ w. w.name.items) (take l.instr-index l.instrs)) (map (λ w. w.name.items) (drop l.instr-index l.instrs)) ≡ over (with_name l.at) [] (map (λ w. w.name.items) l.instrs);
+  seen : (name : List ℕ) → has_entry l.seen name
+      ≡ list_any (bytes_eq name) (map (λ w. w.name.items) (take l.instr-index l.instrs));
+  goes_on : over (with_name l.at) (map (λ w. w.name.items) (take l.instr-index l.instrs))
+      (map (λ w. w.name.items) (drop l.instr-index l.instrs))
+      ≡ over (with_name l.at) [] (map (λ w. w.name.items) l.instrs);
 }

@@ -8,6 +8,9 @@ use Rattle.icl_declarations.proofs.naming.distinct_words.Given as goal
 
 abbrev pub invariant-loop-word : goal.invariant-loop-word
 invariant-loop-word l = record {
-  seen : (name : List ℕ) → has_entry l.seen name ≡ list_any (bytes_eq name) (map (λ w. w.name.items) (take l.word-index l.words));
-  goes_on : over (with_name l.at) (map (λ w. w.name.items) (take l.word-index l.words)) (map (λ w. w.name.items) (drop l.word-index l.words)) ≡ over (with_name l.at) [] (map (λ w. w.name.items) l.words);
+  seen : (name : List ℕ) → has_entry l.seen name
+      ≡ list_any (bytes_eq name) (map (λ w. w.name.items) (take l.word-index l.words));
+  goes_on : over (with_name l.at) (map (λ w. w.name.items) (take l.word-index l.words))
+      (map (λ w. w.name.items) (drop l.word-index l.words))
+      ≡ over (with_name l.at) [] (map (λ w. w.name.items) l.words);
 }

@@ -8,4 +8,6 @@ use Rattle.icl_declarations.proofs.Each.{more}
 use Rattle.icl_declarations.proofs.widths.parts.Given as goal
 
 abbrev pub invariant-loop-e : goal.invariant-loop-e
-invariant-loop-e l = more (one_part (seen_table l.params) l.holder) (map tern_bits l.parts.items) (map seen_expr (drop l.e-index l.es)) ≡ each (one_part (seen_table l.params) l.holder) (map seen_expr l.es)
+invariant-loop-e l = more (one_part (seen_table l.params) l.holder)
+    (map tern_bits l.parts.items) (map seen_expr (drop l.e-index l.es))
+    ≡ each (one_part (seen_table l.params) l.holder) (map seen_expr l.es)

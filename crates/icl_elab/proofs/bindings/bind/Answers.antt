@@ -22,9 +22,12 @@ returns-in_err-bound-in-Port c =
     let port = c.in-Port in
     let e = seen_fault c.in_err-bound-in-Port.field-0.0 in
     let whole = ap (λ (b : Bind). bind frames here child c.args.bindings (seen_bind b)) port.is
-    ∙ bind_parts frames here child c.args.bindings port.at port.name.items (option_map seen_range port.range) (map seen_sig port.sigs.items)
-    ∙ ap (λ l. bound_in frames here child c.args.bindings port.at port.name.items (option_map seen_range port.range) (map seen_sig l) >>= λ b. Ok (c.args.bindings ++ b ∷ [])) (sym c.as_slice.ensures) in
-    rw (p.1, p.2) (fails_along e _ _ (sym whole) (step_fails e _ (λ b. Ok (c.args.bindings ++ b ∷ [])) c.in_err-bound-in-Port.ensures))
+    ∙ bind_parts frames here child c.args.bindings port.at port.name.items
+    (option_map seen_range port.range) (map seen_sig port.sigs.items)
+    ∙ ap (λ l. bound_in frames here child c.args.bindings port.at port.name.items (option_map seen_range
+    port.range) (map seen_sig l) >>= λ b. Ok (c.args.bindings ++ b ∷ [])) (sym c.as_slice.ensures) in
+    rw (p.1, p.2) (fails_along e _ _ (sym whole)
+    (step_fails e _ (λ b. Ok (c.args.bindings ++ b ∷ [])) c.in_err-bound-in-Port.ensures))
 
 pub returns-in_ok-bound-in-Port : goal.returns-in_ok-bound-in-Port
 returns-in_ok-bound-in-Port c =
@@ -33,7 +36,10 @@ returns-in_ok-bound-in-Port c =
     let child = (here_in c.args.tables.now c.args.child).frame in
     let port = c.in-Port in
     let whole = ap (λ (b : Bind). bind frames here child c.args.bindings (seen_bind b)) port.is
-    ∙ bind_parts frames here child c.args.bindings port.at port.name.items (option_map seen_range port.range) (map seen_sig port.sigs.items)
-    ∙ ap (λ l. bound_in frames here child c.args.bindings port.at port.name.items (option_map seen_range port.range) (map seen_sig l) >>= λ b. Ok (c.args.bindings ++ b ∷ [])) (sym c.as_slice.ensures) in
+    ∙ bind_parts frames here child c.args.bindings port.at port.name.items
+    (option_map seen_range port.range) (map seen_sig port.sigs.items)
+    ∙ ap (λ l. bound_in frames here child c.args.bindings port.at port.name.items (option_map seen_range
+    port.range) (map seen_sig l) >>= λ b. Ok (c.args.bindings ++ b ∷ [])) (sym c.as_slice.ensures) in
     gives_if same c.with.result _ (c.args.bindings ++ seen_bound c.in_ok-bound-in-Port.bound ∷ [])
-    (whole ∙ step_goes _ (seen_bound c.in_ok-bound-in-Port.bound) (λ b. Ok (c.args.bindings ++ b ∷ [])) c.in_ok-bound-in-Port.ensures) c.with.ensures.ok c.with.ensures.told
+    (whole ∙ step_goes _ (seen_bound c.in_ok-bound-in-Port.bound) (λ b. Ok (c.args.bindings ++ b ∷ []))
+    c.in_ok-bound-in-Port.ensures) c.with.ensures.ok c.with.ensures.told

@@ -7,4 +7,6 @@ use Rattle.icl_references.specs.Tables.{frames_of, here_in}
 use Rattle.icl_elab.proofs.bindings.scan_signals.Given as goal
 
 abbrev pub invariant-loop-sig : goal.invariant-loop-sig
-invariant-loop-sig l = more (scan_signal (frames_of l.tables) (here_in l.tables l.here)) l.refs.items (map seen_sig (drop l.sig-index l.sigs)) ≡ each (scan_signal (frames_of l.tables) (here_in l.tables l.here)) (map seen_sig l.sigs)
+invariant-loop-sig l = more (scan_signal (frames_of l.tables) (here_in l.tables l.here)) l.refs.items
+    (map seen_sig (drop l.sig-index l.sigs))
+    ≡ each (scan_signal (frames_of l.tables) (here_in l.tables l.here)) (map seen_sig l.sigs)

@@ -9,7 +9,8 @@ pub returns-in-Some-home : goal.returns-in-Some-home
 returns-in-Some-home c = λ n h.
     let cells = c.args.cells.now in
     c.bound_by.ensures
-    ∙ bound_there cells n c.in-Some.parent c.in-Some-home.part (sym c.in-Some-home.is ∙ h ∙ ap (home_in cells n) c.in-Some.is)
+    ∙ bound_there cells n c.in-Some.parent c.in-Some-home.part
+    (sym c.in-Some-home.is ∙ h ∙ ap (home_in cells n) c.in-Some.is)
     ∙ sym (ap (bindings_of (seen_pass cells) n) c.in-Some.is)
 
 pub returns-in-None-home : goal.returns-in-None-home

@@ -8,5 +8,7 @@ use Rattle.icl_elab.proofs.hierarchy.homes.Given as goal
 abbrev pub invariant-loop-here : goal.invariant-loop-here
 invariant-loop-here l = record {
   long : length l.homes.items ≡ length l.cells;
-  homes : (c : ℕ) → c < length l.cells → or_else (home_at l.homes.items c) (home_from c (parent_in (frames_of l.tables) c) l.here (drop l.here l.cells)) ≡ home_in l.cells c (parent_in (frames_of l.tables) c);
+  homes : (c : ℕ) → c < length l.cells → or_else (home_at l.homes.items c)
+      (home_from c (parent_in (frames_of l.tables) c) l.here (drop l.here l.cells))
+      ≡ home_in l.cells c (parent_in (frames_of l.tables) c);
 }

@@ -8,5 +8,7 @@ use Rattle.icl_elab.proofs.hierarchy.note_parts.Given as goal
 
 abbrev pub invariant-loop-k : goal.invariant-loop-k
 invariant-loop-k l = (c : ℕ) → c < length l.fn.homes →
-    or_else (home_at l.homes c) (cond (is_in (parent_in (frames_of l.tables) c) l.here) (position_from (is_of_cell c) l.k (drop l.k l.parts)) None)
-    ≡ or_else (home_at l.fn.homes c) (cond (is_in (parent_in (frames_of l.tables) c) l.here) (position_from (is_of_cell c) 0 l.parts) None)
+    or_else (home_at l.homes c) (cond (is_in (parent_in (frames_of l.tables) c) l.here)
+    (position_from (is_of_cell c) l.k (drop l.k l.parts)) None)
+    ≡ or_else (home_at l.fn.homes c)
+    (cond (is_in (parent_in (frames_of l.tables) c) l.here) (position_from (is_of_cell c) 0 l.parts) None)

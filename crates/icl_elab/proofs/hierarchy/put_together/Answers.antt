@@ -11,5 +11,6 @@ returns-in_ok-cells-in-Ok-clause-ok c =
     let frames = frames_of c.args.tables.now in
     let cells = c.args.cells.items in
     c.in_ok-cells-in-Ok.ensures
-    ∙ ap (made frames cells) (c.in-Ok.ensures.ok ∙ ap (λ (cs : List CellParts). ports_from (seen_pass cs) 0 frames cs) c.deref.ensures.value)
+    ∙ ap (made frames cells) (c.in-Ok.ensures.ok
+    ∙ ap (λ (cs : List CellParts). ports_from (seen_pass cs) 0 frames cs) c.deref.ensures.value)
     ∙ cells_are (seen_pass cells) 0 frames cells c.requires.heads

@@ -7,4 +7,6 @@ use Rattle.icl_declarations.proofs.Each.{more}
 use Rattle.icl_elab.proofs.links.port_numbers.Given as goal
 
 abbrev pub invariant-loop-name : goal.invariant-loop-name
-invariant-loop-name l = more (port_number (frames_of l.tables) (here_in l.tables l.here) l.at) l.numbers.items (map bytes_of (drop l.name-index l.names)) ≡ each (port_number (frames_of l.tables) (here_in l.tables l.here) l.at) (map bytes_of l.names)
+invariant-loop-name l = more (port_number (frames_of l.tables) (here_in l.tables l.here) l.at) l.numbers.items
+    (map bytes_of (drop l.name-index l.names))
+    ≡ each (port_number (frames_of l.tables) (here_in l.tables l.here) l.at) (map bytes_of l.names)

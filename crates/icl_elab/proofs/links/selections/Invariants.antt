@@ -8,4 +8,6 @@ use Rattle.icl_declarations.proofs.Each.{more}
 use Rattle.icl_elab.proofs.links.selections.Given as goal
 
 abbrev pub invariant-loop-instr : goal.invariant-loop-instr
-invariant-loop-instr l = more (selection (frames_of l.tables) (here_in l.tables l.here) l.at) (map seen_selection l.all.items) (map seen_instr (drop l.instr-index l.instrs)) ≡ each (selection (frames_of l.tables) (here_in l.tables l.here) l.at) (map seen_instr l.instrs)
+invariant-loop-instr l = more (selection (frames_of l.tables) (here_in l.tables l.here) l.at)
+    (map seen_selection l.all.items) (map seen_instr (drop l.instr-index l.instrs))
+    ≡ each (selection (frames_of l.tables) (here_in l.tables l.here) l.at) (map seen_instr l.instrs)

@@ -21,8 +21,10 @@ returns-in_err-cell-clause-gives c =
     let here = c.loop-here.here in
     let e = seen_fault c.in_err-cell.field-0.0 in
     let next = cells_next frames here (omega arith) in
-    let fails = more_fails f (seen_pass c.loop-here.cells.items) (here_at frames here) (drop (here + 1) (cells_of frames)) e c.in_err-cell.ensures.gives in
-    rw (p.1, p.2) (fails_along e _ _ (sym (ap (more f (seen_pass c.loop-here.cells.items)) next) ∙ c.loop-here.invariant.goes_on) fails)
+    let fails = more_fails f (seen_pass c.loop-here.cells.items) (here_at frames here)
+    (drop (here + 1) (cells_of frames)) e c.in_err-cell.ensures.gives in
+    rw (p.1, p.2) (fails_along e _ _
+    (sym (ap (more f (seen_pass c.loop-here.cells.items)) next) ∙ c.loop-here.invariant.goes_on) fails)
 
 pub loop-here-preserved : goal.loop-here-preserved
 loop-here-preserved c =
@@ -32,15 +34,19 @@ loop-here-preserved c =
     let cell = c.in_ok-cell.cell in
     let lt : here < length frames = omega arith in
     let outs = seen_pass c.loop-here.cells.items in
-    let pushed = ap seen_pass c.in_ok-push.ensures.items ∙ map-append seen_cell_parts c.loop-here.cells.items (cell ∷ []) in
+    let pushed = ap seen_pass c.in_ok-push.ensures.items
+    ∙ map-append seen_cell_parts c.loop-here.cells.items (cell ∷ []) in
     record {
       heads = ap (map heads_of_cell) c.in_ok-push.ensures.items
           ∙ map-append heads_of_cell c.loop-here.cells.items (cell ∷ [])
           ∙ ap (λ (l : List (List PartHead)). l ++ heads_of_cell cell ∷ []) c.loop-here.invariant.heads
-          ∙ ap (λ (h : List PartHead). map heads_of_frame (take here frames) ++ h ∷ []) c.in_ok-cell.ensures.heads
-          ∙ sym (ap (map heads_of_frame) (take_more frames here no_frame lt) ∙ map-append heads_of_frame (take here frames) ((here_at frames here).frame ∷ []));
+          ∙ ap (λ (h : List PartHead). map heads_of_frame (take here frames) ++ h ∷ [])
+          c.in_ok-cell.ensures.heads
+          ∙ sym (ap (map heads_of_frame) (take_more frames here no_frame lt)
+          ∙ map-append heads_of_frame (take here frames) ((here_at frames here).frame ∷ []));
       goes_on = ap (λ l. more f l (drop (here + 1) (cells_of frames))) pushed
-          ∙ more_next f outs (here_at frames here) (drop (here + 1) (cells_of frames)) (seen_cell_parts cell) c.in_ok-cell.ensures.gives
+          ∙ more_next f outs (here_at frames here) (drop (here + 1) (cells_of frames))
+          (seen_cell_parts cell) c.in_ok-cell.ensures.gives
           ∙ sym (ap (more f outs) (cells_next frames here lt))
           ∙ c.loop-here.invariant.goes_on;
     }
@@ -56,5 +62,6 @@ returns-clause-gives c =
     let frames = frames_of c.args.tables.now in
     let outs = seen_pass c.loop-here.cells.items in
     sym c.loop-here.invariant.goes_on
-    ∙ ap (more (cell_found frames) outs) (drop_all c.loop-here.here (cells_of frames) (omega (arith, cells_long frames 0)))
+    ∙ ap (more (cell_found frames) outs)
+    (drop_all c.loop-here.here (cells_of frames) (omega (arith, cells_long frames 0)))
     ∙ more_end (cell_found frames) outs

@@ -9,5 +9,7 @@ use Rattle.icl_elab.proofs.pass.add_cells.Given as goal
 abbrev pub invariant-loop-here : goal.invariant-loop-here
 invariant-loop-here l = record {
   heads : heads_of_cells l.cells.items ≡ map heads_of_frame (take l.here (frames_of l.tables));
-  goes_on : more (cell_found (frames_of l.tables)) (seen_pass l.cells.items) (drop l.here (cells_of (frames_of l.tables))) ≡ each (cell_found (frames_of l.tables)) (cells_of (frames_of l.tables));
+  goes_on : more (cell_found (frames_of l.tables)) (seen_pass l.cells.items)
+      (drop l.here (cells_of (frames_of l.tables)))
+      ≡ each (cell_found (frames_of l.tables)) (cells_of (frames_of l.tables));
 }

@@ -10,6 +10,9 @@ use Rattle.icl_elab.proofs.ports.port_found.Goals as goal
 pub returns-in_err-port : goal.returns-in_err-port
 returns-in_err-port c =
     let p = err_from_is_err_and c.from_residual.result c.from_residual.ensures.1 in
-    let f = port_prop (frames_of c.args.tables.now) (here_in c.args.tables.now c.args.here) c.args.kind (seen_member c.args.m.now) in
+    let f = port_prop (frames_of c.args.tables.now)
+    (here_in c.args.tables.now c.args.here) c.args.kind (seen_member c.args.m.now) in
     rw (p.1, p.2)
-    (over_stops seen_prop f c.args.props.now c.loop-prop.prop-index c.prop-item.result (seen_resolved c.loop-prop.port) (seen_fault c.in_err-port.field-0.0) _ c.loop-prop-test.true c.prop-item.is c.in_err-port.ensures c.loop-prop.invariant)
+    (over_stops seen_prop f c.args.props.now c.loop-prop.prop-index c.prop-item.result
+    (seen_resolved c.loop-prop.port) (seen_fault c.in_err-port.field-0.0) _ c.loop-prop-test.true
+    c.prop-item.is c.in_err-port.ensures c.loop-prop.invariant)

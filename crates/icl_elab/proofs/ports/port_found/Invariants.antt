@@ -8,5 +8,7 @@ use Rattle.icl_elab.proofs.ports.port_found.Given as goal
 
 abbrev pub invariant-loop-prop : goal.invariant-loop-prop
 invariant-loop-prop l =
-    over (port_prop (frames_of l.tables) (here_in l.tables l.here) l.kind (seen_member l.m)) (seen_resolved l.port) (map seen_prop (drop l.prop-index l.props))
-    ≡ over (port_prop (frames_of l.tables) (here_in l.tables l.here) l.kind (seen_member l.m)) (found (port_role (frames_of l.tables) (here_in l.tables l.here) l.kind)) (map seen_prop l.props)
+    over (port_prop (frames_of l.tables) (here_in l.tables l.here) l.kind (seen_member l.m))
+    (seen_resolved l.port) (map seen_prop (drop l.prop-index l.props))
+    ≡ over (port_prop (frames_of l.tables) (here_in l.tables l.here) l.kind (seen_member l.m))
+    (found (port_role (frames_of l.tables) (here_in l.tables l.here) l.kind)) (map seen_prop l.props)

@@ -8,5 +8,7 @@ use Rattle.icl_elab.proofs.registers.register_props.Given as goal
 
 abbrev pub invariant-loop-prop : goal.invariant-loop-prop
 invariant-loop-prop l =
-    over (register_prop (frames_of l.tables) (here_in l.tables l.here) (seen_member l.m)) (seen_said (frames_of l.tables) (here_in l.tables l.here) l.said) (map seen_prop (drop l.prop-index l.props))
-    ≡ over (register_prop (frames_of l.tables) (here_in l.tables l.here) (seen_member l.m)) (nothing_said (frames_of l.tables) (here_in l.tables l.here)) (map seen_prop l.props)
+    over (register_prop (frames_of l.tables) (here_in l.tables l.here) (seen_member l.m)) (seen_said
+    (frames_of l.tables) (here_in l.tables l.here) l.said) (map seen_prop (drop l.prop-index l.props))
+    ≡ over (register_prop (frames_of l.tables) (here_in l.tables l.here) (seen_member l.m))
+    (nothing_said (frames_of l.tables) (here_in l.tables l.here)) (map seen_prop l.props)

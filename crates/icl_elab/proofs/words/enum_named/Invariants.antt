@@ -7,4 +7,5 @@ use Rattle.icl_elab.proofs.words.enum_named.Given as goal
 
 abbrev pub invariant-loop-item : goal.invariant-loop-item
 invariant-loop-item l =
-    find (λ item. is_enum item.what && bytes_eq l.name item.name) (map seen_item (drop l.item-index l.items)) ≡ find (λ item. is_enum item.what && bytes_eq l.name item.name) (map seen_item l.items)
+    find (λ item. is_enum item.what && bytes_eq l.name item.name) (map seen_item (drop l.item-index l.items))
+    ≡ find (λ item. is_enum item.what && bytes_eq l.name item.name) (map seen_item l.items)

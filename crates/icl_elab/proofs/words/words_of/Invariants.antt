@@ -8,4 +8,6 @@ use Rattle.icl_declarations.proofs.Each.{more}
 use Rattle.icl_elab.proofs.words.words_of.Given as goal
 
 abbrev pub invariant-loop-word : goal.invariant-loop-word
-invariant-loop-word l = more (word_of (seen_table l.params) l.at l.wide) (map seen_word l.all.items) (map seen_enum_word (drop l.word-index l.words)) ≡ each (word_of (seen_table l.params) l.at l.wide) (map seen_enum_word l.words)
+invariant-loop-word l = more (word_of (seen_table l.params) l.at l.wide) (map seen_word l.all.items)
+    (map seen_enum_word (drop l.word-index l.words))
+    ≡ each (word_of (seen_table l.params) l.at l.wide) (map seen_enum_word l.words)

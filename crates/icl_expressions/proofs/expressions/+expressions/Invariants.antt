@@ -28,7 +28,8 @@ abbrev pub invariant-product-loop-alloc : goal.invariant-product-loop-alloc
 invariant-product-loop-alloc l = record {
   bounded : l.left.value.used ≤ 256;
   shorter : length l.left.rest < length l.fn.tokens;
-  goes_on : read_repeat (is_sign product_sign) (read_operand (read_factor l.depth false) product_sign) with_operand (seen_counting l.left.value) l.left.rest
+  goes_on : read_repeat (is_sign product_sign) (read_operand (read_factor l.depth false) product_sign)
+      with_operand (seen_counting l.left.value) l.left.rest
       ≡ read_term l.depth l.alone l.used l.fn.tokens;
 }
 
@@ -39,7 +40,8 @@ abbrev pub invariant-sum-loop-alloc : goal.invariant-sum-loop-alloc
 invariant-sum-loop-alloc l = record {
   bounded : l.left.value.used ≤ 256;
   shorter : length l.left.rest < length l.fn.tokens;
-  goes_on : read_repeat (is_sign sum_sign) (read_operand (read_term l.depth false) sum_sign) with_operand (seen_counting l.left.value) l.left.rest
+  goes_on : read_repeat (is_sign sum_sign) (read_operand (read_term l.depth false) sum_sign) with_operand
+      (seen_counting l.left.value) l.left.rest
       ≡ read_sum l.depth l.used l.fn.tokens;
 }
 

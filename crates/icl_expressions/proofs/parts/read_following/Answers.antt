@@ -12,7 +12,9 @@ loop-alloc-preserved g c =
     record {
       shorter = omega (arith, c.in_ok-parts.ensures.shorter, c.loop-alloc.invariant.shorter);
       goes_on =
-          go_on appended (is_mark c.args.mark) (λ xs. read_after c.args.mark r) (λ xs. after_shrinks c.args.mark r c.requires) (seen_few g.T.Part.view c.loop-alloc.parts.value) c.loop-alloc.parts.rest _
+          go_on appended (is_mark c.args.mark) (λ xs. read_after c.args.mark r)
+          (λ xs. after_shrinks c.args.mark r c.requires)
+          (seen_few g.T.Part.view c.loop-alloc.parts.value) c.loop-alloc.parts.rest _
           (sym c.begins_mark.ensures ∙ c.loop-alloc-test.true) c.in_ok-parts.ensures.gives
           ∙ c.loop-alloc.invariant.goes_on;
     }

@@ -11,18 +11,22 @@ use Rattle.icl_frames.proofs.cells.+enter.Goals as goal
 
 pub returns-then-levels-eq0-clause-gives : goal.returns-then-levels-eq0-clause-gives
 returns-then-levels-eq0-clause-gives t c =
-    no_level c.args.levels (map seen_module c.args.modules.now) (names_of c.args.above.now) c.args.parent (seen_progress c.args.state) (seen_request c.args.request.now) c.if-levels-eq0.true
+    no_level c.args.levels (map seen_module c.args.modules.now) (names_of c.args.above.now) c.args.parent
+    (seen_progress c.args.state) (seen_request c.args.request.now) c.if-levels-eq0.true
 
 pub returns-in_err-stepped-clause-gives : goal.returns-in_err-stepped-clause-gives
 returns-in_err-stepped-clause-gives t c =
-    let p = err_from_is_err_and c.from_residual-in_err-stepped.result c.from_residual-in_err-stepped.ensures.1 in
+    let p = err_from_is_err_and c.from_residual-in_err-stepped.result
+    c.from_residual-in_err-stepped.ensures.1 in
     let blocks = map seen_module c.args.modules.now in
     let inside = names_of c.as_slice.result.now in
     let s = seen_progress c.args.state in
     let r = seen_request c.args.request.now in
     let levels : 0 < c.args.levels = omega (arith, c.if-levels-eq0.false) in
-    let whole = a_level c.args.levels blocks (names_of c.args.above.now) inside c.args.parent s r levels (ap names_of c.as_slice.ensures.value ∙ c.in_ok-inside.ensures.ok) in
-    rw (p.1, p.2) (below_fails (c.args.levels - 1) blocks inside (length s.frames) (with_cell blocks inside c.args.parent s r) (seen_fault c.in_err-stepped.field-0.0) _ whole c.in_err-stepped.ensures.gives)
+    let whole = a_level c.args.levels blocks (names_of c.args.above.now) inside c.args.parent s r levels
+    (ap names_of c.as_slice.ensures.value ∙ c.in_ok-inside.ensures.ok) in
+    rw (p.1, p.2) (below_fails (c.args.levels - 1) blocks inside (length s.frames) (with_cell blocks inside
+    c.args.parent s r) (seen_fault c.in_err-stepped.field-0.0) _ whole c.in_err-stepped.ensures.gives)
 
 pub loop-wanted-init : goal.loop-wanted-init
 loop-wanted-init t c =
@@ -32,33 +36,48 @@ loop-wanted-init t c =
     let r = seen_request c.args.request.now in
     let stepped = c.in_ok-stepped.stepped in
     let levels : 0 < c.args.levels = omega (arith, c.if-levels-eq0.false) in
-    let whole = a_level c.args.levels blocks (names_of c.args.above.now) inside c.args.parent s r levels c.in_ok-inside.ensures.ok in
-    let gives = ap (λ l. with_cell blocks (names_of l) c.args.parent s r) (sym c.as_slice.ensures.value) ∙ c.in_ok-stepped.ensures.gives in
+    let whole = a_level c.args.levels blocks
+    (names_of c.args.above.now) inside c.args.parent s r levels c.in_ok-inside.ensures.ok in
+    let gives = ap (λ l. with_cell blocks (names_of l) c.args.parent s r) (sym c.as_slice.ensures.value)
+    ∙ c.in_ok-stepped.ensures.gives in
     record {
       few = c.in_ok-stepped.ensures.few;
-      goes_on = ap (λ (l : List RequestAt). over (enter (c.args.levels - 1) blocks inside (Some stepped.cell)) (seen_progress stepped.progress) (map seen_request l)) c.as_slice-wanted-items.ensures.value
-          ∙ ap (λ (n : ℕ). over (enter (c.args.levels - 1) blocks inside (Some n)) (seen_progress stepped.progress) (map seen_request stepped.requests.items)) c.in_ok-stepped.ensures.number
-          ∙ below_goes (c.args.levels - 1) blocks inside (length s.frames) (with_cell blocks inside c.args.parent s r) (seen_stepped stepped) _ whole gives;
+      goes_on = ap (λ (l : List RequestAt). over (enter (c.args.levels - 1) blocks inside (Some stepped.cell))
+          (seen_progress stepped.progress) (map seen_request l)) c.as_slice-wanted-items.ensures.value
+          ∙ ap (λ (n : ℕ). over (enter (c.args.levels - 1) blocks inside (Some n)) (seen_progress
+          stepped.progress) (map seen_request stepped.requests.items)) c.in_ok-stepped.ensures.number
+          ∙ below_goes (c.args.levels - 1) blocks inside (length s.frames)
+          (with_cell blocks inside c.args.parent s r) (seen_stepped stepped) _ whole gives;
     }
 
 pub returns-in_err-cells-clause-gives : goal.returns-in_err-cells-clause-gives
 returns-in_err-cells-clause-gives t c =
     let p = err_from_is_err_and c.from_residual-in_err-cells.result c.from_residual-in_err-cells.ensures.1 in
     let blocks = map seen_module c.args.modules.now in
-    let f : Progress → Request → Answer Progress = enter (c.args.levels - 1) blocks (names_of c.in_ok-inside.inside.items) (Some c.in_ok-stepped.stepped.cell) in
+    let f : Progress → Request → Answer Progress = enter (c.args.levels - 1) blocks
+    (names_of c.in_ok-inside.inside.items) (Some c.in_ok-stepped.stepped.cell) in
     let s = seen_progress c.loop-wanted.cells in
     let e = seen_fault c.in_err-cells.field-0.0 in
-    let fails = subst (λ l. Fails e (enter (c.args.levels - 1) blocks (names_of l) (Some c.in_ok-stepped.stepped.cell) s (seen_request c.wanted-item.result))) c.as_slice-in-loop-wanted.ensures.value c.in_err-cells.ensures.gives in
-    rw (p.1, p.2) (over_stops seen_request f c.as_slice-wanted-items.result.now c.loop-wanted.wanted-index c.wanted-item.result s e _ c.loop-wanted-test.true c.wanted-item.is fails c.loop-wanted.invariant.goes_on)
+    let fails = subst (λ l. Fails e (enter (c.args.levels - 1) blocks (names_of l)
+    (Some c.in_ok-stepped.stepped.cell) s (seen_request c.wanted-item.result)))
+    c.as_slice-in-loop-wanted.ensures.value c.in_err-cells.ensures.gives in
+    rw (p.1, p.2) (over_stops seen_request f c.as_slice-wanted-items.result.now c.loop-wanted.wanted-index
+    c.wanted-item.result s e _ c.loop-wanted-test.true
+    c.wanted-item.is fails c.loop-wanted.invariant.goes_on)
 
 pub loop-wanted-preserved : goal.loop-wanted-preserved
 loop-wanted-preserved t c =
     let blocks = map seen_module c.args.modules.now in
-    let f : Progress → Request → Answer Progress = enter (c.args.levels - 1) blocks (names_of c.in_ok-inside.inside.items) (Some c.in_ok-stepped.stepped.cell) in
+    let f : Progress → Request → Answer Progress = enter (c.args.levels - 1) blocks
+    (names_of c.in_ok-inside.inside.items) (Some c.in_ok-stepped.stepped.cell) in
     let s = seen_progress c.loop-wanted.cells in
-    let gives = ap (λ l. enter (c.args.levels - 1) blocks (names_of l) (Some c.in_ok-stepped.stepped.cell) s (seen_request c.wanted-item.result)) (sym c.as_slice-in-loop-wanted.ensures.value) ∙ c.in_ok-cells.ensures.gives in
+    let gives = ap (λ l. enter (c.args.levels - 1) blocks (names_of l) (Some c.in_ok-stepped.stepped.cell) s
+    (seen_request c.wanted-item.result)) (sym c.as_slice-in-loop-wanted.ensures.value)
+    ∙ c.in_ok-cells.ensures.gives in
     record {
       few = c.in_ok-cells.ensures.few;
-      goes_on = over_goes seen_request f c.as_slice-wanted-items.result.now c.loop-wanted.wanted-index c.wanted-item.result s (seen_progress c.in_ok-cells.cells) c.loop-wanted-test.true c.wanted-item.is gives
+      goes_on = over_goes seen_request f c.as_slice-wanted-items.result.now
+          c.loop-wanted.wanted-index c.wanted-item.result s
+          (seen_progress c.in_ok-cells.cells) c.loop-wanted-test.true c.wanted-item.is gives
           ∙ c.loop-wanted.invariant.goes_on;
     }

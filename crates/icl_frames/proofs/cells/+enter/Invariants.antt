@@ -11,6 +11,8 @@ decreases-enter l = l.levels
 abbrev pub invariant-loop-wanted : goal.invariant-loop-wanted
 invariant-loop-wanted l = record {
   few : l.cells.counts.bits ≤ 4096;
-  goes_on : over (enter (l.levels - 1) (map seen_module l.modules) (names_of l.inside.items) (Some l.cell)) (seen_progress l.cells) (map seen_request (drop l.wanted-index l.wanted-items))
-      ≡ enter l.levels (map seen_module l.modules) (names_of l.above) l.fn.parent (seen_progress l.fn.state) (seen_request l.request);
+  goes_on : over (enter (l.levels - 1) (map seen_module l.modules) (names_of l.inside.items) (Some l.cell))
+      (seen_progress l.cells) (map seen_request (drop l.wanted-index l.wanted-items))
+      ≡ enter l.levels (map seen_module l.modules) (names_of l.above) l.fn.parent
+      (seen_progress l.fn.state) (seen_request l.request);
 }

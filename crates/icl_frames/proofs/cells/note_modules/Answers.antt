@@ -12,11 +12,14 @@ loop-block-preserved c =
     let x = c.block-item.result in
     let i = c.loop-block.block-index in
     let new : is_some (block_named (map seen_module (take i c.args.modules.now)) x.name.items) ≡ false =
-    sym (c.loop-block.invariant.seen x.name.items) ∙ (ap (has_entry c.loop-block.seen) (sym c.as_slice.ensures) ∙ sym c.has.ensures ∙ c.if-has.false) in
+    sym (c.loop-block.invariant.seen x.name.items)
+    ∙ (ap (has_entry c.loop-block.seen) (sym c.as_slice.ensures) ∙ sym c.has.ensures ∙ c.if-has.false) in
     record {
       seen = λ name. c.in_ok-note.ensures.ok name
-          ∙ ap (λ (n : List ℕ). has_entry c.loop-block.seen name || bytes_eq name n) c.as_slice-in-loop-block.ensures
+          ∙ ap (λ (n : List ℕ). has_entry c.loop-block.seen name || bytes_eq name n)
+          c.as_slice-in-loop-block.ensures
           ∙ ap (λ (t : Bool). t || bytes_eq name x.name.items) (c.loop-block.invariant.seen name)
           ∙ sym (name_passed c.args.modules.now i x c.loop-block-test.true c.block-item.is name);
-      goes_on = module_passed c.args.modules.now i x c.loop-block-test.true c.block-item.is new ∙ c.loop-block.invariant.goes_on;
+      goes_on = module_passed c.args.modules.now i x c.loop-block-test.true c.block-item.is new
+          ∙ c.loop-block.invariant.goes_on;
     }

@@ -9,6 +9,8 @@ use Rattle.icl_frames.proofs.cells.note_modules.Given as goal
 
 abbrev pub invariant-loop-block : goal.invariant-loop-block
 invariant-loop-block l = record {
-  seen : (name : List ℕ) → has_entry l.seen name ≡ is_some (block_named (map seen_module (take l.block-index l.modules)) name);
-  goes_on : over with_block (map seen_module (take l.block-index l.modules)) (map seen_module (drop l.block-index l.modules)) ≡ over with_block [] (map seen_module l.modules);
+  seen : (name : List ℕ)
+      → has_entry l.seen name ≡ is_some (block_named (map seen_module (take l.block-index l.modules)) name);
+  goes_on : over with_block (map seen_module (take l.block-index l.modules))
+      (map seen_module (drop l.block-index l.modules)) ≡ over with_block [] (map seen_module l.modules);
 }

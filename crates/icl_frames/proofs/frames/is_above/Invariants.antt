@@ -5,4 +5,5 @@ use Rattle.icl_frames.specs.SeenFrames.{names_of}
 use Rattle.icl_frames.proofs.frames.is_above.Given as goal
 
 abbrev pub invariant-loop-block : goal.invariant-loop-block
-invariant-loop-block l = list_any (bytes_eq l.name) (names_of (drop l.block-index l.above)) ≡ list_any (bytes_eq l.name) (names_of l.above)
+invariant-loop-block l = list_any (bytes_eq l.name) (names_of (drop l.block-index l.above))
+    ≡ list_any (bytes_eq l.name) (names_of l.above)

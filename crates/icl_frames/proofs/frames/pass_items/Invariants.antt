@@ -11,6 +11,8 @@ abbrev pub invariant-loop-item : goal.invariant-loop-item
 invariant-loop-item l = record {
   few : l.state.counts.bits ≤ 4096;
   taken : AreTaken l.state.taken (map seen_item (take l.item-index l.items));
-  goes_on : over (pass_item (map seen_module l.modules) (names_of l.above) (seen_table l.params)) (seen_passed (map seen_item (take l.item-index l.items)) l.state) (map seen_item (drop l.item-index l.items))
-      ≡ over (pass_item (map seen_module l.modules) (names_of l.above) (seen_table l.params)) (nothing_passed l.fn.counts) (map seen_item l.items);
+  goes_on : over (pass_item (map seen_module l.modules) (names_of l.above) (seen_table l.params)) (seen_passed
+      (map seen_item (take l.item-index l.items)) l.state) (map seen_item (drop l.item-index l.items))
+      ≡ over (pass_item (map seen_module l.modules) (names_of l.above) (seen_table l.params))
+      (nothing_passed l.fn.counts) (map seen_item l.items);
 }

@@ -7,5 +7,6 @@ use Rattle.icl_frames.proofs.instances.bound_parameters.Given as goal
 
 abbrev pub invariant-loop-bind : goal.invariant-loop-bind
 invariant-loop-bind l =
-    over (with_binding (seen_table l.params) (seen_module l.block)) (seen_table l.given) (map seen_bind (drop l.bind-index l.binds))
+    over (with_binding (seen_table l.params) (seen_module l.block)) (seen_table l.given)
+    (map seen_bind (drop l.bind-index l.binds))
     ≡ over (with_binding (seen_table l.params) (seen_module l.block)) [] (map seen_bind l.binds)

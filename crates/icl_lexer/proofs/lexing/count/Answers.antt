@@ -1,4 +1,5 @@
-use Rattle.std.proofs.Common.{ℕ, ◌+◌, ◌≤◌, List, [], ◌++◌, refl, take, drop, length, sym, ap, subst, ◌∙◌, arith, length-drop, length-append}
+use Rattle.std.proofs.Common.{ℕ, ◌+◌, ◌≤◌, List, [], ◌++◌, refl, take, drop, length, sym, ap, subst, ◌∙◌}
+use Rattle.std.proofs.Common.{arith, length-drop, length-append}
 use Rattle.ij_text.specs.Places.{first_place, place_after}
 use Rattle.icl_lexer.specs.Cutting.{IsPiece, NoPiece, fault_of, token_of}
 use Rattle.icl_lexer.proofs.Cuts.{cut_more, nothing_cut, place_of_cut, rest_is}
@@ -12,14 +13,16 @@ returns-in_default c =
     let start = c.loop-start.start in
     let so_far = c.loop-start.invariant.cut.2 in
     let left = length-drop start src in
-    let at = c.place_at.ensures ∙ sym (place_of_cut src c.loop-start.invariant.cut.0 start c.loop-start.invariant.cut.1 so_far) ∙ so_far.at_is in
+    let at = c.place_at.ensures ∙ sym (place_of_cut src c.loop-start.invariant.cut.0 start
+    c.loop-start.invariant.cut.1 so_far) ∙ so_far.at_is in
     record {
       pieces = so_far.pieces;
       rest = drop start src;
       cut = so_far.cut;
       some = λ none. let e = ap length none in omega (arith, e, left, c.loop-start-test.true);
       stuck = subst NoPiece (rest_is src start) c.in_default.ensures.none;
-      is = c.fault_at.ensures ∙ ap (λ (l : List ℕ). fault_of l c.place_at.result) (rest_is src start) ∙ ap (fault_of (drop start src)) at;
+      is = c.fault_at.ensures ∙ ap (λ (l : List ℕ). fault_of l c.place_at.result) (rest_is src start)
+          ∙ ap (fault_of (drop start src)) at;
     }
 
 pub loop-start-preserved : goal.loop-start-preserved
@@ -30,9 +33,11 @@ loop-start-preserved c =
     let at = c.loop-start.invariant.cut.1 in
     let kind = c.in-Some.found.kind in
     let len = c.in-Some.found.len in
-    let piece : IsPiece (drop start src) kind len = subst (λ l. IsPiece l kind len) (rest_is src start) c.in-Some.ensures.some in
+    let piece : IsPiece (drop start src) kind len =
+    subst (λ l. IsPiece l kind len) (rest_is src start) c.in-Some.ensures.some in
     let within = piece.within in
-    let fits : start + len ≤ length src = omega (arith, within, length-drop start src, c.loop-start.invariant.within) in
+    let fits : start + len ≤ length src =
+    omega (arith, within, length-drop start src, c.loop-start.invariant.within) in
     let some = piece_some (drop start src) kind len piece in
     let one = count_few kind in
     let count = c.count_of-count.ensures in
@@ -50,12 +55,18 @@ loop-start-preserved c =
     }
 
 pub loop-start-init : goal.loop-start-init
-loop-start-init c = record { within = omega arith; few = omega arith; cut = ([], first_place, nothing_cut c.args.src.now, refl) }
+loop-start-init c = record {
+  within = omega arith;
+  few = omega arith;
+  cut =
+      ([], first_place, nothing_cut c.args.src.now, refl);
+}
 
 pub loop-start-smaller : goal.loop-start-smaller
 loop-start-smaller c =
     let src = c.args.src.now in
     let start = c.loop-start.start in
-    let piece = subst (λ l. IsPiece l c.in-Some.found.kind c.in-Some.found.len) (rest_is src start) c.in-Some.ensures.some in
+    let piece = subst (λ l. IsPiece l c.in-Some.found.kind c.in-Some.found.len)
+    (rest_is src start) c.in-Some.ensures.some in
     let some = piece_some (drop start src) c.in-Some.found.kind c.in-Some.found.len piece in
     omega (arith, some, c.loop-start-test.true)

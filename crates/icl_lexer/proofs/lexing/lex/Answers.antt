@@ -5,7 +5,8 @@ use Rattle.icl_lexer.proofs.Fronts.{seen_is, tokens_count}
 use Rattle.icl_lexer.proofs.lexing.lex.Goals as goal
 
 pub returns-in_err-count-clause-accepted : goal.returns-in_err-count-clause-accepted
-returns-in_err-count-clause-accepted c = λ tokens are. absurd (tokens_or_fault c.args.src.now tokens _ are c.in_err-count.ensures)
+returns-in_err-count-clause-accepted c =
+    λ tokens are. absurd (tokens_or_fault c.args.src.now tokens _ are c.in_err-count.ensures)
 
 pub returns-in_err-count-clause-refused : goal.returns-in_err-count-clause-refused
 returns-in_err-count-clause-refused c = λ fault h.
@@ -26,4 +27,5 @@ pub returns-clause-only : goal.returns-clause-only
 returns-clause-only c = λ tokens are. c.cursor_at.ensures ∙ sym (seen_is c.args.src.now tokens are)
 
 pub returns-clause-refused : goal.returns-clause-refused
-returns-clause-refused c = λ fault h. absurd (tokens_or_fault c.args.src.now c.in_ok-count.ensures.0 fault c.in_ok-count.ensures.1 h)
+returns-clause-refused c =
+    λ fault h. absurd (tokens_or_fault c.args.src.now c.in_ok-count.ensures.0 fault c.in_ok-count.ensures.1 h)

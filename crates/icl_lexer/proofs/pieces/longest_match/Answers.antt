@@ -1,4 +1,5 @@
-use Rattle.std.proofs.Common.{◌≡◌, ℕ, List, ◌∷◌, [], ◌++◌, ◌+◌, ◌-◌, suc, length, take, get_or, sym, ap, ◌∙◌, arith, append-nil}
+use Rattle.std.proofs.Common.{◌≡◌, ℕ, List, ◌∷◌, [], ◌++◌, ◌+◌, ◌-◌, suc, length, take, get_or, sym, ap, ◌∙◌}
+use Rattle.std.proofs.Common.{arith, append-nil}
 use Rattle.icl_lexer.specs.Pieces.{kind_of}
 use Rattle.icl_lexer.specs.States.{kind_from}
 use Rattle.icl_lexer.specs.Matches.{longest_match, longer}
@@ -10,7 +11,9 @@ loop-n-preserved c =
     let text = c.args.text.now in
     let n = c.loop-n.n in
     let next : suc n ≡ n + 1 = omega arith in
-    let stands : (bs : List ℕ) → kind_from c.next-state.result bs ≡ kind_of (take (n + 1) text ++ bs) = λ bs. c.next-state.ensures bs ∙ c.loop-n.invariant.stands (get_or text n 0 ∷ bs) ∙ ap kind_of (take_more text n bs c.loop-n-test.true ∙ ap (λ k. take k text ++ bs) next) in
+    let stands : (bs : List ℕ) → kind_from c.next-state.result bs ≡ kind_of (take (n + 1) text ++ bs) =
+    λ bs. c.next-state.ensures bs ∙ c.loop-n.invariant.stands (get_or text n 0 ∷ bs)
+    ∙ ap kind_of (take_more text n bs c.loop-n-test.true ∙ ap (λ k. take k text ++ bs) next) in
     let kind = c.kind.ensures ∙ stands [] ∙ ap kind_of (append-nil (take (n + 1) text)) in
     record {
       within = omega arith;
@@ -28,5 +31,6 @@ returns-else-not-is_dead c =
     let n = c.loop-n.n in
     let all : n + (length text - n) ≡ length text = omega (arith, c.loop-n.invariant.within) in
     c.loop-n.invariant.found
-    ∙ sym (no_longer text n (length text - n) (λ bs. sym (c.loop-n.invariant.stands bs) ∙ c.is_dead.ensures.only c.if-not-is_dead.false bs))
+    ∙ sym (no_longer text n (length text - n)
+    (λ bs. sym (c.loop-n.invariant.stands bs) ∙ c.is_dead.ensures.only c.if-not-is_dead.false bs))
     ∙ ap (longest_match text) all

@@ -10,7 +10,8 @@ returns-then-is_blank c = blank_at c.args.text.now c.in-len1-up.len_at_least (sy
 
 pub returns-then-begins_name : goal.returns-then-begins_name
 returns-then-begins_name c =
-    name_at c.args.text.now c.name_len.result c.in-len1-up.len_at_least (sym c.if-is_blank.ensures) (sym c.if-begins_name.ensures)
+    name_at c.args.text.now c.name_len.result c.in-len1-up.len_at_least
+    (sym c.if-is_blank.ensures) (sym c.if-begins_name.ensures)
     (c.name_len.ensures.counted ∙ ap (run_len in_name) (rest_is c.args.text.now 1))
 
 pub returns-in-Whole : goal.returns-in-Whole

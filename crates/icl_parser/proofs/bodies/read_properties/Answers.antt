@@ -13,7 +13,9 @@ pub loop-alloc-preserved : goal.loop-alloc-preserved
 loop-alloc-preserved c = record {
   shorter = omega (arith, c.in_ok-props.ensures.shorter, c.loop-alloc.invariant.shorter);
   goes_on =
-      go_on with_property no_close (read_property c.args.owner) (λ ps. reads_shrink (property_reads c.args.owner ps)) (seen_list seen_prop c.loop-alloc.props.value) c.loop-alloc.props.rest (seen_read (seen_list seen_prop) c.in_ok-props.props)
+      go_on with_property no_close (read_property c.args.owner)
+      (λ ps. reads_shrink (property_reads c.args.owner ps)) (seen_list seen_prop c.loop-alloc.props.value)
+      c.loop-alloc.props.rest (seen_read (seen_list seen_prop) c.in_ok-props.props)
       (sym c.before_close.ensures ∙ c.loop-alloc-test.true) c.in_ok-props.ensures.gives
       ∙ c.loop-alloc.invariant.goes_on;
 }

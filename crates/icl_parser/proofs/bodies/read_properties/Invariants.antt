@@ -10,7 +10,8 @@ use Rattle.icl_parser.proofs.bodies.read_properties.Given as goal
 abbrev pub invariant-loop-alloc : goal.invariant-loop-alloc
 invariant-loop-alloc l = record {
   shorter : length l.props.rest ≤ length l.fn.tokens;
-  goes_on : read_repeat no_close (read_property l.owner) with_property (seen_list seen_prop l.props.value) l.props.rest ≡ read_properties l.owner l.fn.tokens;
+  goes_on : read_repeat no_close (read_property l.owner) with_property
+      (seen_list seen_prop l.props.value) l.props.rest ≡ read_properties l.owner l.fn.tokens;
 }
 
 abbrev pub decreases-loop-alloc : goal.decreases-loop-alloc

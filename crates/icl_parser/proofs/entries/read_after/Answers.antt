@@ -9,7 +9,8 @@ pub loop-alloc-preserved : goal.loop-alloc-preserved
 loop-alloc-preserved g c = record {
   shorter = omega (arith, c.in_ok-entries.ensures.shorter, c.loop-alloc.invariant.shorter);
   goes_on =
-      go_on appended no_close (λ xs. g.T.Entry.reader) (λ xs. c.requires) (seen_list g.T.Entry.view c.loop-alloc.entries.value) c.loop-alloc.entries.rest _
+      go_on appended no_close (λ xs. g.T.Entry.reader) (λ xs. c.requires)
+      (seen_list g.T.Entry.view c.loop-alloc.entries.value) c.loop-alloc.entries.rest _
       (sym c.before_close.ensures ∙ c.loop-alloc-test.true) c.in_ok-entries.ensures.gives
       ∙ c.loop-alloc.invariant.goes_on;
 }

@@ -13,7 +13,9 @@ pub loop-alloc-preserved : goal.loop-alloc-preserved
 loop-alloc-preserved c = record {
   shorter = omega (arith, c.in_ok-names.ensures.shorter, c.loop-alloc.invariant.shorter);
   goes_on =
-      go_on with_member no_close (λ (ys : List (List ℕ)). read_member) (λ ys. reads_shrink member_reads) (seen_list bytes_of c.loop-alloc.names.value) c.loop-alloc.names.rest (seen_read (seen_list bytes_of) c.in_ok-names.names)
+      go_on with_member no_close (λ (ys : List (List ℕ)). read_member) (λ ys. reads_shrink member_reads)
+      (seen_list bytes_of c.loop-alloc.names.value) c.loop-alloc.names.rest
+      (seen_read (seen_list bytes_of) c.in_ok-names.names)
       (sym c.before_close.ensures ∙ c.loop-alloc-test.true) c.in_ok-names.ensures.gives
       ∙ c.loop-alloc.invariant.goes_on;
 }

@@ -7,10 +7,12 @@ use Rattle.icl_parser.proofs.Verdicts.{design_found, design_only, design_not, re
 use Rattle.icl_parser.proofs.parsing.parse.Goals as goal
 
 pub returns-in-Ok-clause-found : goal.returns-in-Ok-clause-found
-returns-in-Ok-clause-found c = design_found c.args.tokens (seen_design (record { modules = c.in-Ok.modules })) c.in-Ok.ensures
+returns-in-Ok-clause-found c =
+    design_found c.args.tokens (seen_design (record { modules = c.in-Ok.modules })) c.in-Ok.ensures
 
 pub returns-in-Ok-clause-only : goal.returns-in-Ok-clause-only
-returns-in-Ok-clause-only c = λ d h. design_only c.args.tokens d (seen_design (record { modules = c.in-Ok.modules })) c.in-Ok.ensures h
+returns-in-Ok-clause-only c =
+    λ d h. design_only c.args.tokens d (seen_design (record { modules = c.in-Ok.modules })) c.in-Ok.ensures h
 
 pub returns-in_ok-fault-in-Err-At-clause-accepted : goal.returns-in_ok-fault-in-Err-At-clause-accepted
 returns-in_ok-fault-in-Err-At-clause-accepted c = λ d k.
@@ -24,4 +26,5 @@ returns-in_ok-fault-in-Err-At-clause-refused c =
     let h = subst (λ s. Fails s (whole_design ts)) c.in-Err-At.field-0-is c.in-Err-At.ensures in
     on_refusal c.args.src.now ts c.in_ok-fault-in-Err-At.field-0
     (refused_at c.args.src.now ts _ (c.in-Err-At.left, c.in-Err-At.why) c.in_ok-fault-in-Err-At.field-0 h
-    (c.rest_of-rest.ensures ∙ ap (λ (l : List SeenToken). drop (length l - c.in-Err-At.left) l) c.again-start.ensures) c.in_ok-fault-in-Err-At.ensures)
+    (c.rest_of-rest.ensures ∙ ap (λ (l : List SeenToken). drop (length l - c.in-Err-At.left) l)
+    c.again-start.ensures) c.in_ok-fault-in-Err-At.ensures)

@@ -3,13 +3,18 @@ use Rattle.icl_printer.proofs.Laid.{laid_both, laid_front, laid_then_part}
 use Rattle.icl_printer.proofs.properties.put_property.Goals as goal
 
 pub returns-in_err-put_word-clause-part : goal.returns-in_err-put_word-clause-part
-returns-in_err-put_word-clause-part g c = at_refusal c.from_residual.result (laid_front _ _ c.in_err-put_word.ensures.part)
+returns-in_err-put_word-clause-part g c =
+    at_refusal c.from_residual.result (laid_front _ _ c.in_err-put_word.ensures.part)
 
 pub returns-in_err-put-clause-part : goal.returns-in_err-put-clause-part
-returns-in_err-put-clause-part g c = at_refusal c.from_residual-in_err-put.result (laid_then_part _ _ c.in_ok-put_word.ensures.whole (laid_front _ _ c.in_err-put.ensures.part))
+returns-in_err-put-clause-part g c = at_refusal c.from_residual-in_err-put.result
+    (laid_then_part _ _ c.in_ok-put_word.ensures.whole (laid_front _ _ c.in_err-put.ensures.part))
 
 pub returns-in_err-put_tokens-clause-part : goal.returns-in_err-put_tokens-clause-part
-returns-in_err-put_tokens-clause-part g c = at_refusal c.from_residual-in_err-put_tokens.result (laid_then_part _ _ c.in_ok-put_word.ensures.whole (laid_then_part _ _ c.in_ok-put.ensures.whole c.in_err-put_tokens.ensures.part))
+returns-in_err-put_tokens-clause-part g c =
+    at_refusal c.from_residual-in_err-put_tokens.result (laid_then_part _ _ c.in_ok-put_word.ensures.whole
+    (laid_then_part _ _ c.in_ok-put.ensures.whole c.in_err-put_tokens.ensures.part))
 
 pub returns-clause-whole : goal.returns-clause-whole
-returns-clause-whole g c = laid_both _ _ c.in_ok-put_word.ensures.whole (laid_both _ _ c.in_ok-put.ensures.whole c.in_ok-put_tokens.ensures.whole)
+returns-clause-whole g c = laid_both _ _ c.in_ok-put_word.ensures.whole
+    (laid_both _ _ c.in_ok-put.ensures.whole c.in_ok-put_tokens.ensures.whole)

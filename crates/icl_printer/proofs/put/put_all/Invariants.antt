@@ -4,6 +4,7 @@ use Rattle.icl_printer.proofs.put.put_all.Given as goal
 
 abbrev pub invariant-loop-part : goal.invariant-loop-part
 invariant-loop-part g l = record {
-  front : PartsLeft g.T.Put.tokens g.T.Put.view l.parts.items l.part-index (g.K.Sink.taken l.fn.k) (g.K.Sink.taken l.k);
+  front : PartsLeft g.T.Put.tokens g.T.Put.view l.parts.items l.part-index
+      (g.K.Sink.taken l.fn.k) (g.K.Sink.taken l.k);
   later : g.K.Sink.faults l.fn.k ≤ g.K.Sink.faults l.k;
 }

@@ -8,6 +8,8 @@ pub loop-k-preserved : goal.loop-k-preserved
 loop-k-preserved c =
     let f = λ (pos : ℕ). Bit c.args.cell c.args.part pos c.args.inverted in
     record {
-      items = c.push_reserved.ensures.items ∙ ap (λ (l : List Ref). l ++ f (c.args.s.low + c.loop-k.k) ∷ []) c.loop-k.invariant.items ∙ sym (map-range_with_len_more f c.args.s.low c.loop-k.k (c.args.s.low + c.loop-k.k) refl);
+      items = c.push_reserved.ensures.items
+          ∙ ap (λ (l : List Ref). l ++ f (c.args.s.low + c.loop-k.k) ∷ []) c.loop-k.invariant.items
+          ∙ sym (map-range_with_len_more f c.args.s.low c.loop-k.k (c.args.s.low + c.loop-k.k) refl);
       room = omega (arith, c.push_reserved.ensures.spare, c.loop-k.invariant.room);
     }

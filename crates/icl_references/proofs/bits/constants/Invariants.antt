@@ -7,6 +7,7 @@ use Rattle.icl_references.proofs.bits.constants.Given as goal
 
 abbrev pub invariant-loop-k : goal.invariant-loop-k
 invariant-loop-k l = record {
-  items : l.refs.items ≡ map (λ b. Fixed (flip_if l.inverted (unwrap_or b false))) (take l.k (tern_bits l.bits));
+  items : l.refs.items
+      ≡ map (λ b. Fixed (flip_if l.inverted (unwrap_or b false))) (take l.k (tern_bits l.bits));
   room : length l.bits.value.items ≤ l.k + l.refs.spare;
 }

@@ -10,4 +10,5 @@ pub some_meet-requires : goal.some_meet-requires
 some_meet-requires c =
     let t = c.args.tables.now in
     subst (λ l. AreRowsAlike [] (map seen_row l)) (sym c.as_slice.ensures)
-    (rows_alike (frames_of t) (here_in t c.args.here) c.args.at c.in_ok-width.width (map seen_text c.args.rows.now) (map seen_row c.in_ok-rows.rows.items) c.in_ok-rows.ensures)
+    (rows_alike (frames_of t) (here_in t c.args.here) c.args.at c.in_ok-width.width
+    (map seen_text c.args.rows.now) (map seen_row c.in_ok-rows.rows.items) c.in_ok-rows.ensures)

@@ -9,5 +9,6 @@ use Rattle.icl_references.proofs.muxes.row_values.Given as goal
 
 abbrev pub invariant-loop-value : goal.invariant-loop-value
 invariant-loop-value l =
-    more (value_in (here_in l.tables l.here).frame.params l.at l.width) (map tern_bits l.all.items) (map (seen_few seen_expr) (drop l.value-index l.values))
+    more (value_in (here_in l.tables l.here).frame.params l.at l.width) (map tern_bits l.all.items)
+    (map (seen_few seen_expr) (drop l.value-index l.values))
     ≡ each (value_in (here_in l.tables l.here).frame.params l.at l.width) (map (seen_few seen_expr) l.values)

@@ -9,5 +9,6 @@ use Rattle.icl_references.proofs.muxes.rows_in.Given as goal
 
 abbrev pub invariant-loop-row : goal.invariant-loop-row
 invariant-loop-row l =
-    more (row_in (frames_of l.tables) (here_in l.tables l.here) l.at l.width) (map seen_choice l.all.items) (map seen_row (drop l.row-index l.rows))
+    more (row_in (frames_of l.tables) (here_in l.tables l.here) l.at l.width) (map seen_choice l.all.items)
+    (map seen_row (drop l.row-index l.rows))
     ≡ each (row_in (frames_of l.tables) (here_in l.tables l.here) l.at l.width) (map seen_row l.rows)

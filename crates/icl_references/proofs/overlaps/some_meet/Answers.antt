@@ -26,10 +26,12 @@ loop-row-preserved c =
     let vs = values_of c.loop-row.seen in
     let left = left_at seen_row c.args.rows.now i c.row-item.result c.loop-row-test.true c.row-item.is in
     let all = c.in_ok-note_row.ensures.all ∙ ap (λ l. vs ++ map tern_bits l) c.as_slice-in-loop-row.ensures in
-    let apart : values_meet vs row.values ≡ false = ap (λ l. values_meet vs (map tern_bits l)) (sym c.as_slice.ensures) ∙ sym c.in_ok-row_meets.ensures ∙ c.if-branch.false in
+    let apart : values_meet vs row.values ≡ false = ap (λ l. values_meet vs (map tern_bits l))
+    (sym c.as_slice.ensures) ∙ sym c.in_ok-row_meets.ensures ∙ c.if-branch.false in
     record {
       seen = c.in_ok-note_row.ensures.seen;
-      alike = subst (λ (l : List OpenBits). AreRowsAlike l rest) (sym all) (alike_next vs row rest (subst (AreRowsAlike vs) left c.loop-row.invariant.alike));
+      alike = subst (λ (l : List OpenBits). AreRowsAlike l rest) (sym all)
+          (alike_next vs row rest (subst (AreRowsAlike vs) left c.loop-row.invariant.alike));
       goes_on = ap (λ (l : List OpenBits). from_left l rest) all
           ∙ sym (ap (from_left vs) left ∙ ap (λ (b : Bool). b || from_left (vs ++ row.values) rest) apart)
           ∙ c.loop-row.invariant.goes_on;

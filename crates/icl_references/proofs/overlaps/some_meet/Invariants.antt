@@ -8,5 +8,6 @@ abbrev pub invariant-loop-row : goal.invariant-loop-row
 invariant-loop-row l = record {
   seen : IsSeen l.seen;
   alike : AreRowsAlike (values_of l.seen) (map seen_row (drop l.row-index l.rows));
-  goes_on : from_left (values_of l.seen) (map seen_row (drop l.row-index l.rows)) ≡ some_meet (map seen_row l.rows);
+  goes_on : from_left (values_of l.seen) (map seen_row (drop l.row-index l.rows))
+      ≡ some_meet (map seen_row l.rows);
 }

@@ -12,5 +12,8 @@ returns-in_err-cell c =
     let t = c.args.tables.now in
     let e = seen_fault c.in_err-cell.field-0.0 in
     let here = here_in t c.loop-name.cell in
-    let h = subst (λ (n : List ℕ). Fails e (child_named (frames_of t) here c.args.at n)) c.as_slice.ensures c.in_err-cell.ensures.gives in
-    rw (p.1, p.2) (stops_at (frames_of t) here c.args.at c.in-Some.parts.1.now c.loop-name.name-index c.name-item.result c.in-Some.parts.0.now.items e _ c.loop-name-test.true c.name-item.is h c.loop-name.invariant.goes_on)
+    let h = subst (λ (n : List ℕ). Fails e (child_named (frames_of t) here c.args.at n))
+    c.as_slice.ensures c.in_err-cell.ensures.gives in
+    rw (p.1, p.2)
+    (stops_at (frames_of t) here c.args.at c.in-Some.parts.1.now c.loop-name.name-index c.name-item.result
+    c.in-Some.parts.0.now.items e _ c.loop-name-test.true c.name-item.is h c.loop-name.invariant.goes_on)

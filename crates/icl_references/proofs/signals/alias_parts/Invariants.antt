@@ -8,4 +8,7 @@ use Rattle.icl_references.specs.Tables.{frames_of, here_in}
 use Rattle.icl_references.proofs.signals.alias_parts.Given as goal
 
 abbrev pub invariant-loop-sig : goal.invariant-loop-sig
-invariant-loop-sig l = more (λ s. alias_meant (frames_of l.tables) (here_in l.tables l.here) s.at s.inverted s.what) (map seen_refs l.parts.items) (map seen_sig (drop l.sig-index l.sigs)) ≡ each (λ s. alias_meant (frames_of l.tables) (here_in l.tables l.here) s.at s.inverted s.what) (map seen_sig l.sigs)
+invariant-loop-sig l =
+    more (λ s. alias_meant (frames_of l.tables) (here_in l.tables l.here) s.at s.inverted s.what)
+    (map seen_refs l.parts.items) (map seen_sig (drop l.sig-index l.sigs)) ≡ each (λ s. alias_meant
+    (frames_of l.tables) (here_in l.tables l.here) s.at s.inverted s.what) (map seen_sig l.sigs)

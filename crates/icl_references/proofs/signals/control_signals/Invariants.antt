@@ -6,4 +6,6 @@ use Rattle.icl_references.specs.Tables.{frames_of, here_in}
 use Rattle.icl_references.proofs.signals.control_signals.Given as goal
 
 abbrev pub invariant-loop-sig : goal.invariant-loop-sig
-invariant-loop-sig l = over (λ u s. control_meant (frames_of l.tables) (here_in l.tables l.here) s.at s.what) tt (map seen_sig (drop l.sig-index l.sigs)) ≡ over (λ u s. control_meant (frames_of l.tables) (here_in l.tables l.here) s.at s.what) tt (map seen_sig l.sigs)
+invariant-loop-sig l = over (λ u s. control_meant (frames_of l.tables) (here_in l.tables l.here) s.at s.what)
+    tt (map seen_sig (drop l.sig-index l.sigs)) ≡ over
+    (λ u s. control_meant (frames_of l.tables) (here_in l.tables l.here) s.at s.what) tt (map seen_sig l.sigs)

@@ -15,7 +15,8 @@ loop-frame-preserved c =
     let frames = c.args.frames.now in
     let i = c.loop-frame.frame-index in
     record {
-      tables = subst AreCellTables (sym c.in_ok-push.ensures.items) (one_more IsCellTable cells cell c.loop-frame.invariant.tables c.in_ok-cell.ensures.table);
+      tables = subst AreCellTables (sym c.in_ok-push.ensures.items)
+          (one_more IsCellTable cells cell c.loop-frame.invariant.tables c.in_ok-cell.ensures.table);
       frames = ap frames_in c.in_ok-push.ensures.items
           ∙ map-append (λ (x : CellTable). seen_frame x.frame.now) cells (cell ∷ [])
           ∙ ap (λ (l : List Frame). l ++ seen_frame cell.frame.now ∷ []) c.loop-frame.invariant.frames

@@ -9,5 +9,7 @@ use Rattle.icl_references.proofs.tables.members_of.Given as goal
 abbrev pub invariant-loop-item : goal.invariant-loop-item
 invariant-loop-item l = record {
   few : l.part ≤ l.item-index;
-  goes_on : map seen_member l.all.items ++ members_from l.part (parts_in (map seen_item (drop l.item-index l.frame.block.now.items.items))) (drop l.part l.frame.bounds.items) ≡ members (seen_frame l.frame);
+  goes_on : map seen_member l.all.items
+      ++ members_from l.part (parts_in (map seen_item (drop l.item-index l.frame.block.now.items.items)))
+      (drop l.part l.frame.bounds.items) ≡ members (seen_frame l.frame);
 }

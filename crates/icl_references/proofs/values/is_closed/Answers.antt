@@ -10,4 +10,5 @@ pub returns : goal.returns
 returns c =
     let t = c.args.bits.now in
     let e = tern_length t in
-    sym (ap (list_all is_some) (drop_all c.loop-k.k (tern_bits t) (omega (arith, e, c.len-k-end.ensures.value, c.loop-k-test.false)))) ∙ c.loop-k.invariant
+    sym (ap (list_all is_some) (drop_all c.loop-k.k (tern_bits t)
+    (omega (arith, e, c.len-k-end.ensures.value, c.loop-k-test.false)))) ∙ c.loop-k.invariant

@@ -13,9 +13,11 @@ pub returns : goal.returns
 returns c =
     let cells = cells_of c.args.wiring.now in
     let w = c.args.wire in
-    let there = subst (λ s. IsAtSome s (is_instrument_cell cells w.cell) (part_at cells w.cell w.part)) c.requires.stands (stands_at cells c.args.wiring.now.entry w) in
+    let there = subst (λ s. IsAtSome s (is_instrument_cell cells w.cell) (part_at cells w.cell w.part))
+    c.requires.stands (stands_at cells c.args.wiring.now.entry w) in
     let inside = in_cell cells w.cell w.part there.part there.there in
-    let is : is_instrument inside.inside ≡ true = sym (get_mapped is_instrument false cells w.cell inside.inside inside.cell_is) ∙ there.role.1 in
+    let is : is_instrument inside.inside ≡ true =
+    sym (get_mapped is_instrument false cells w.cell inside.inside inside.cell_is) ∙ there.role.1 in
     c.number_of.ensures
     ∙ ap (λ l. get_or l w.cell 0) c.as_slice.ensures.value
     ∙ ap (λ l. get_or l w.cell 0) c.requires.wiring.instrument_numbers

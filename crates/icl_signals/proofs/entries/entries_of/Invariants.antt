@@ -9,5 +9,6 @@ use Rattle.icl_signals.specs.Told.{seen_entry}
 use Rattle.icl_signals.proofs.entries.entries_of.Given as goal
 
 abbrev pub invariant-loop-cell : goal.invariant-loop-cell
-invariant-loop-cell l = map seen_entry l.all.items ++ filter (λ e. test_of l.kind e.what.role) (flat_map entries_in (enumerate_from l.number (map seen_cell (drop l.cell-index l.cell-items))))
+invariant-loop-cell l = map seen_entry l.all.items ++ filter (λ e. test_of l.kind e.what.role)
+    (flat_map entries_in (enumerate_from l.number (map seen_cell (drop l.cell-index l.cell-items))))
     ≡ entries_that (test_of l.kind) (seen_hier l.fn.hier)

@@ -8,5 +8,7 @@ use Rattle.icl_signals.specs.Told.{seen_entry}
 use Rattle.icl_signals.proofs.entries.with_cell.Given as goal
 
 abbrev pub invariant-loop-what : goal.invariant-loop-what
-invariant-loop-what l = map seen_entry l.all.items ++ filter (λ e. test_of l.kind e.what.role) (map (entry_of l.number) (enumerate_from l.part (map seen_part (drop l.what-index l.what-items))))
-    ≡ map seen_entry l.fn.found.items ++ filter (λ e. test_of l.kind e.what.role) (entries_in (l.number, seen_cell l.fn.cell))
+invariant-loop-what l = map seen_entry l.all.items ++ filter (λ e. test_of l.kind e.what.role)
+    (map (entry_of l.number) (enumerate_from l.part (map seen_part (drop l.what-index l.what-items))))
+    ≡ map seen_entry l.fn.found.items
+    ++ filter (λ e. test_of l.kind e.what.role) (entries_in (l.number, seen_cell l.fn.cell))

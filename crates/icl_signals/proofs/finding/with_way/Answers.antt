@@ -12,7 +12,9 @@ loop-bit-preserved c =
     let less = c.saturating_sub.ensures in
     record {
       ends = c.with_note-ends.ensures;
-      found = next_found (cells_of w) w.entry l.wire l.found c.in-At.inverted c.in-At.other _ l.invariant.found
-          (λ n. c.one_move.ensures.value (follow (cells_of w) w.entry n) ∙ ap (resume (follow (cells_of w) w.entry n)) c.in-At.is)
+      found = next_found (cells_of w) w.entry l.wire l.found
+          c.in-At.inverted c.in-At.other _ l.invariant.found
+          (λ n. c.one_move.ensures.value (follow (cells_of w) w.entry n)
+          ∙ ap (resume (follow (cells_of w) w.entry n)) c.in-At.is)
           (omega (arith, less)) c.turned_end.ensures;
     }

@@ -12,4 +12,5 @@ loop-look-preserved c =
     let left : ℕ = w.looks - (c.loop-look._look + 1) in
     let go : Bool → Wire → End = follow (cells_of w) w.entry left in
     let n : w.looks - c.loop-look._look ≡ suc left = omega (arith, c.loop-look-test.true) in
-    sym (ap (λ k. follow (cells_of w) w.entry k c.loop-look.inverted c.loop-look.wire) n ∙ c.one_move.ensures.value go ∙ ap (resume go) c.in-At.is) ∙ c.loop-look.invariant
+    sym (ap (λ k. follow (cells_of w) w.entry k c.loop-look.inverted c.loop-look.wire) n
+    ∙ c.one_move.ensures.value go ∙ ap (resume go) c.in-At.is) ∙ c.loop-look.invariant

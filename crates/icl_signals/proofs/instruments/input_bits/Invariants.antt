@@ -6,4 +6,6 @@ use Rattle.icl_signals.specs.Connecting.{input_from}
 use Rattle.icl_signals.proofs.instruments.input_bits.Given as goal
 
 abbrev pub invariant-loop-r : goal.invariant-loop-r
-invariant-loop-r l = after l.all.items (each (input_from (cells_of l.wiring) l.wiring.entry l.at) (drop l.r-index l.refs)) ≡ each (input_from (cells_of l.wiring) l.wiring.entry l.at) l.refs
+invariant-loop-r l =
+    after l.all.items (each (input_from (cells_of l.wiring) l.wiring.entry l.at) (drop l.r-index l.refs))
+    ≡ each (input_from (cells_of l.wiring) l.wiring.entry l.at) l.refs

@@ -9,4 +9,6 @@ use Rattle.icl_signals.specs.PlainNets.{seen_input}
 use Rattle.icl_signals.proofs.instruments.inputs.Given as goal
 
 abbrev pub invariant-loop-e : goal.invariant-loop-e
-invariant-loop-e l = after (map seen_input l.all.items) (each (input_of (cells_of l.wiring) l.wiring.entry l.cell) (map (λ e. numbered (seen_entry e)) (drop l.e-index l.parts))) ≡ each (input_of (cells_of l.wiring) l.wiring.entry l.cell) (map (λ e. numbered (seen_entry e)) l.parts)
+invariant-loop-e l = after (map seen_input l.all.items) (each (input_of
+    (cells_of l.wiring) l.wiring.entry l.cell) (map (λ e. numbered (seen_entry e)) (drop l.e-index l.parts)))
+    ≡ each (input_of (cells_of l.wiring) l.wiring.entry l.cell) (map (λ e. numbered (seen_entry e)) l.parts)

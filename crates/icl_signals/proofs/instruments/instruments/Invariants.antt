@@ -11,5 +11,7 @@ use Rattle.icl_signals.specs.PlainNets.{seen_inst}
 use Rattle.icl_signals.proofs.instruments.instruments.Given as goal
 
 abbrev pub invariant-loop-cell : goal.invariant-loop-cell
-invariant-loop-cell l = after (map seen_inst l.all.items) (each (instrument_of (cells_of l.wiring) l.wiring.entry) (filter (λ c. is_instrument c.1) (enumerate_from l.number (map seen_cell (drop l.cell-index l.cell-items)))))
+invariant-loop-cell l =
+    after (map seen_inst l.all.items) (each (instrument_of (cells_of l.wiring) l.wiring.entry) (filter
+    (λ c. is_instrument c.1) (enumerate_from l.number (map seen_cell (drop l.cell-index l.cell-items)))))
     ≡ each (instrument_of (cells_of l.wiring) l.wiring.entry) (instruments (cells_of l.wiring))

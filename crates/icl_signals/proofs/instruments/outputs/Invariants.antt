@@ -6,4 +6,5 @@ use Rattle.icl_signals.specs.PlainNets.{seen_output}
 use Rattle.icl_signals.proofs.instruments.outputs.Given as goal
 
 abbrev pub invariant-loop-e : goal.invariant-loop-e
-invariant-loop-e l = map seen_output l.all.items ≡ map output_of (map (λ e. numbered (seen_entry e)) (take l.e-index l.parts))
+invariant-loop-e l = map seen_output l.all.items
+    ≡ map output_of (map (λ e. numbered (seen_entry e)) (take l.e-index l.parts))

@@ -8,4 +8,6 @@ use Rattle.icl_signals.specs.PlainNets.{seen_row}
 use Rattle.icl_signals.proofs.muxes.rows.Given as goal
 
 abbrev pub invariant-loop-row : goal.invariant-loop-row
-invariant-loop-row l = after (map seen_row l.all.items) (each (row_from (cells_of l.wiring) l.wiring.entry l.at) (map seen_choice (drop l.row-index l.rows))) ≡ each (row_from (cells_of l.wiring) l.wiring.entry l.at) (map seen_choice l.rows)
+invariant-loop-row l = after (map seen_row l.all.items)
+    (each (row_from (cells_of l.wiring) l.wiring.entry l.at) (map seen_choice (drop l.row-index l.rows)))
+    ≡ each (row_from (cells_of l.wiring) l.wiring.entry l.at) (map seen_choice l.rows)

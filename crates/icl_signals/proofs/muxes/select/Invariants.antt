@@ -6,4 +6,6 @@ use Rattle.icl_signals.specs.Connecting.{select_from}
 use Rattle.icl_signals.proofs.muxes.select.Given as goal
 
 abbrev pub invariant-loop-r : goal.invariant-loop-r
-invariant-loop-r l = after l.all.items (each (select_from (cells_of l.wiring) l.wiring.entry l.at) (drop l.r-index l.refs)) ≡ each (select_from (cells_of l.wiring) l.wiring.entry l.at) l.refs
+invariant-loop-r l =
+    after l.all.items (each (select_from (cells_of l.wiring) l.wiring.entry l.at) (drop l.r-index l.refs))
+    ≡ each (select_from (cells_of l.wiring) l.wiring.entry l.at) l.refs

@@ -11,6 +11,8 @@ returns c =
     let items = c.as_slice-cell-items.result.now in
     let i = c.loop-cell.cell-index in
     let nodes = map seen_node c.loop-cell.nodes.items in
-    let paths = sym (ap (λ l. paths_from (map (λ n. n.path) nodes) (map seen_cell l)) (drop_all i items c.loop-cell-test.false)) ∙ c.loop-cell.invariant.paths in
-    let modules = c.loop-cell.invariant.modules ∙ ap (λ l. map (λ d. d.module_name) (map seen_cell l)) (take_all i items c.loop-cell-test.false ∙ c.as_slice-cell-items.ensures) in
+    let paths = sym (ap (λ l. paths_from (map (λ n. n.path) nodes) (map seen_cell l))
+    (drop_all i items c.loop-cell-test.false)) ∙ c.loop-cell.invariant.paths in
+    let modules = c.loop-cell.invariant.modules ∙ ap (λ l. map (λ d. d.module_name) (map seen_cell l))
+    (take_all i items c.loop-cell-test.false ∙ c.as_slice-cell-items.ensures) in
     nodes_are nodes (seen_hier c.args.hier.now) paths modules

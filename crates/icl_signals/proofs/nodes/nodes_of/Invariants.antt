@@ -6,6 +6,8 @@ use Rattle.icl_signals.proofs.nodes.nodes_of.Given as goal
 
 abbrev pub invariant-loop-cell : goal.invariant-loop-cell
 invariant-loop-cell l = record {
-  paths : paths_from (map (λ node. node.path) (map seen_node l.nodes.items)) (map seen_cell (drop l.cell-index l.cell-items)) ≡ paths_from [] (seen_hier l.fn.hier);
-  modules : map (λ node. node.module_name) (map seen_node l.nodes.items) ≡ map (λ c. c.module_name) (map seen_cell (take l.cell-index l.cell-items));
+  paths : paths_from (map (λ node. node.path) (map seen_node l.nodes.items))
+      (map seen_cell (drop l.cell-index l.cell-items)) ≡ paths_from [] (seen_hier l.fn.hier);
+  modules : map (λ node. node.module_name) (map seen_node l.nodes.items)
+      ≡ map (λ c. c.module_name) (map seen_cell (take l.cell-index l.cell-items));
 }

@@ -5,6 +5,8 @@ use Rattle.icl_signals.proofs.numbers.counts_before.Given as goal
 
 abbrev pub invariant-loop-part : goal.invariant-loop-part
 invariant-loop-part l = record {
-  numbers : l.numbers.items ++ before (is_of l.kind) l.next (map seen_part (drop l.part-index l.parts)) ≡ before (is_of l.kind) l.count (map seen_part l.parts);
-  count : with_all (is_of l.kind) l.next (map seen_part (drop l.part-index l.parts)) ≡ with_all (is_of l.kind) l.count (map seen_part l.parts);
+  numbers : l.numbers.items ++ before (is_of l.kind) l.next (map seen_part (drop l.part-index l.parts))
+      ≡ before (is_of l.kind) l.count (map seen_part l.parts);
+  count : with_all (is_of l.kind) l.next (map seen_part (drop l.part-index l.parts))
+      ≡ with_all (is_of l.kind) l.count (map seen_part l.parts);
 }

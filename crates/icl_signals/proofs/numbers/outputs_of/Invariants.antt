@@ -5,4 +5,5 @@ use Rattle.icl_signals.specs.Kinds.{is_of, before}
 use Rattle.icl_signals.proofs.numbers.outputs_of.Given as goal
 
 abbrev pub invariant-loop-cell : goal.invariant-loop-cell
-invariant-loop-cell l = map (λ row. row.items) l.table.items ≡ map (λ c. before (is_of Output) 0 c.parts) (map seen_cell (take l.cell-index l.cells))
+invariant-loop-cell l = map (λ row. row.items) l.table.items
+    ≡ map (λ c. before (is_of Output) 0 c.parts) (map seen_cell (take l.cell-index l.cells))

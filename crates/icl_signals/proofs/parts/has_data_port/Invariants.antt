@@ -5,4 +5,5 @@ use Rattle.icl_references.specs.Roles.{seen_part}
 use Rattle.icl_signals.proofs.parts.has_data_port.Given as goal
 
 abbrev pub invariant-loop-part : goal.invariant-loop-part
-invariant-loop-part l = list_any (λ p. is_data_port p.role) (map seen_part (drop l.part-index l.parts)) ≡ list_any (λ p. is_data_port p.role) (map seen_part l.parts)
+invariant-loop-part l = list_any (λ p. is_data_port p.role) (map seen_part (drop l.part-index l.parts))
+    ≡ list_any (λ p. is_data_port p.role) (map seen_part l.parts)

@@ -5,6 +5,7 @@ use Rattle.icl_signals.proofs.places.places_of.Given as goal
 
 abbrev pub invariant-loop-cell : goal.invariant-loop-cell
 invariant-loop-cell l = record {
-  numbers : map (λ row. row.items) l.numbers.items ++ places_from l.count (map seen_cell (drop l.cell-index l.cells)) ≡ places_from 0 (map seen_cell l.cells);
+  numbers : map (λ row. row.items) l.numbers.items ++ places_from l.count
+      (map seen_cell (drop l.cell-index l.cells)) ≡ places_from 0 (map seen_cell l.cells);
   count : all_bits l.count (map seen_cell (drop l.cell-index l.cells)) ≡ all_bits 0 (map seen_cell l.cells);
 }

@@ -8,4 +8,6 @@ use Rattle.icl_signals.specs.PlainNets.{seen_reg}
 use Rattle.icl_signals.proofs.registers.registers.Given as goal
 
 abbrev pub invariant-loop-e : goal.invariant-loop-e
-invariant-loop-e l = after (map seen_reg l.all.items) (each (register_of (cells_of l.wiring) l.wiring.entry) (map seen_entry (drop l.e-index l.parts))) ≡ each (register_of (cells_of l.wiring) l.wiring.entry) (map seen_entry l.parts)
+invariant-loop-e l = after (map seen_reg l.all.items)
+    (each (register_of (cells_of l.wiring) l.wiring.entry) (map seen_entry (drop l.e-index l.parts)))
+    ≡ each (register_of (cells_of l.wiring) l.wiring.entry) (map seen_entry l.parts)

@@ -12,4 +12,5 @@ returns c =
     c.number_at.ensures
     ∙ ap (λ t. number_at (map (λ row. row.items) t) c.args.cell c.args.part) c.as_slice.ensures.value
     ∙ ap (λ t. number_at t c.args.cell c.args.part) c.requires.wiring.registers
-    ∙ number_at_is Register cells c.args.cell c.args.part (seen_part c.args.what.now) c.requires.placed c.requires.register
+    ∙ number_at_is Register cells c.args.cell c.args.part
+    (seen_part c.args.what.now) c.requires.placed c.requires.register

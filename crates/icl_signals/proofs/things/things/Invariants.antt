@@ -6,4 +6,5 @@ use Rattle.icl_signals.specs.PlainNets.{seen_thing}
 use Rattle.icl_signals.proofs.things.things.Given as goal
 
 abbrev pub invariant-loop-e : goal.invariant-loop-e
-invariant-loop-e l = map seen_thing l.all.items ≡ map (thing_of (cells_of l.wiring) l.wiring.entry) (map seen_entry (take l.e-index l.parts))
+invariant-loop-e l = map seen_thing l.all.items
+    ≡ map (thing_of (cells_of l.wiring) l.wiring.entry) (map seen_entry (take l.e-index l.parts))

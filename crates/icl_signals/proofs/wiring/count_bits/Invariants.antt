@@ -4,4 +4,5 @@ use Rattle.icl_signals.proofs.SignalBits.{bits_of_cells}
 use Rattle.icl_signals.proofs.wiring.count_bits.Given as goal
 
 abbrev pub invariant-loop-cell : goal.invariant-loop-cell
-invariant-loop-cell l = l.sum + bits_of_cells (map seen_cell (drop l.cell-index l.cells)) ≡ bits_of_cells (map seen_cell l.cells)
+invariant-loop-cell l = l.sum + bits_of_cells (map seen_cell (drop l.cell-index l.cells))
+    ≡ bits_of_cells (map seen_cell l.cells)

@@ -11,4 +11,7 @@ returns c =
     let has : HasTokens text c.in-Ok.tokens = c.in-Ok.ensures.tokens in
     let few = few_tokens c.tokens_are_in_the_text.ensures text has.0 c.requires has.1 in
     let modules = seen_design c.in-Ok-parse.design in
-    record { written = c.designs_are_written.ensures text has.0 modules has.1 few (subst (λ tokens. design.derives tokens modules) has.2 c.in-Ok-parse.ensures.found) }
+    record {
+      written = c.designs_are_written.ensures text has.0 modules has.1 few
+          (subst (λ tokens. design.derives tokens modules) has.2 c.in-Ok-parse.ensures.found);
+    }

@@ -8,5 +8,6 @@ loop-word-preserved c = record {
   len = omega (arith, c.push_reserved.ensures.len);
   room = c.push_reserved.ensures.capacity ∙ c.loop-word.invariant.room;
   kept = λ k inner. ap (λ (ws : List ℕ). word_bit ws k) c.push_reserved.ensures.items
-      ∙ word_bit-append c.loop-word.words.items 0 k (omega (arith, c.loop-word.words.ok.0)) ∙ c.loop-word.invariant.kept k inner;
+      ∙ word_bit-append c.loop-word.words.items 0 k (omega (arith, c.loop-word.words.ok.0))
+      ∙ c.loop-word.invariant.kept k inner;
 }

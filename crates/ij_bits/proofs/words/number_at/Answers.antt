@@ -7,8 +7,13 @@ use Rattle.ij_bits.proofs.words.number_at.Goals as goal
 
 pub returns-clause-bits : goal.returns-clause-bits
 returns-clause-bits c k low =
-    ap (λ y. bit_at y k == 1) (lowest c.word_at.result c.args.n c.requires.few) ∙ ap (λ y. y == 1) (low_bit c.word_at.result c.args.n k low)
+    ap (λ y. bit_at y k == 1) (lowest c.word_at.result c.args.n c.requires.few)
+    ∙ ap (λ y. y == 1) (low_bit c.word_at.result c.args.n k low)
     ∙ c.word_at.ensures k (omega arith) (omega arith)
 
 pub returns-clause-small : goal.returns-clause-small
-returns-clause-small c = omega (arith, lowest c.word_at.result c.args.n c.requires.few, mod_below c.word_at.result (2 ^ c.args.n) (pow_pos c.args.n))
+returns-clause-small c = omega (
+  arith,
+  lowest c.word_at.result c.args.n c.requires.few,
+  mod_below c.word_at.result (2 ^ c.args.n) (pow_pos c.args.n),
+)

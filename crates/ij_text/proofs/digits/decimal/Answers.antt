@@ -10,5 +10,7 @@ returns-in_err-n c =
     let b = get_or text c.loop-b.b-index 0 in
     let more = grows (drop (suc c.loop-b.b-index) text) (next_decimal c.loop-b.n b) in
     let e = c.in_err-n.ensures in
-    subst (λ (r : Option ℕ). MatchOption r (2 ^ 128 ≤ decimal_from 0 text) (λ n. n ≡ decimal_from 0 text)) (sym c.from_residual.ensures)
-    (let is = ap (decimal_from c.loop-b.n) (drop-cons text c.loop-b.b-index 0 c.loop-b-test.true) in omega (arith, more, e, is, c.loop-b.invariant))
+    subst (λ (r : Option ℕ). MatchOption r (2 ^ 128 ≤ decimal_from 0 text) (λ n. n ≡ decimal_from 0 text))
+    (sym c.from_residual.ensures)
+    (let is = ap (decimal_from c.loop-b.n) (drop-cons text c.loop-b.b-index 0 c.loop-b-test.true) in
+    omega (arith, more, e, is, c.loop-b.invariant))

@@ -7,5 +7,6 @@ abbrev pub invariant-loop-b : goal.invariant-loop-b
 invariant-loop-b l = record {
   within : l.count ≤ l.b-index;
   two : l.count + length (text_bits Two (drop l.b-index l.text)) ≡ length (text_bits Two l.text);
-  sixteen : 4 * l.count + length (text_bits Sixteen (drop l.b-index l.text)) ≡ length (text_bits Sixteen l.text);
+  sixteen : 4 * l.count + length (text_bits Sixteen (drop l.b-index l.text))
+      ≡ length (text_bits Sixteen l.text);
 }

@@ -1,4 +1,5 @@
-use Rattle.std.proofs.Common.{◌≡◌, ◌+◌, ◌-◌, ◌*◌, ◌/◌, ◌%◌, ◌++◌, Bool, List, true, false, Some, length, map, replicate, arith, ap, sym, ◌∙◌, length-append, append-nil}
+use Rattle.std.proofs.Common.{◌≡◌, ◌+◌, ◌-◌, ◌*◌, ◌/◌, ◌%◌, ◌++◌, Bool, List, true, false, Some, length, map}
+use Rattle.std.proofs.Common.{replicate, arith, ap, sym, ◌∙◌, length-append, append-nil}
 use Rattle.std.proofs.Math.ListN.{length-replicate}
 use Rattle.ij_bits.specs.BitLists.{bits_of}
 use Rattle.ij_bits.proofs.WordBits.{length-bits_of}
@@ -15,7 +16,8 @@ loop-i-init c =
     record {
       room = omega (arith, c.in_ok-value.ensures.room);
       long = omega (arith, none);
-      so_far = ap (λ (l : List Bool). l ++ bits_of (w - 64 * 0) c.args.n) c.in_ok-value.ensures.empty ∙ ap (λ k. bits_of k c.args.n) all;
+      so_far = ap (λ (l : List Bool). l ++ bits_of (w - 64 * 0) c.args.n) c.in_ok-value.ensures.empty
+          ∙ ap (λ k. bits_of k c.args.n) all;
     }
 
 pub loop-i-preserved : goal.loop-i-preserved
@@ -31,8 +33,10 @@ loop-i-preserved c =
     record {
       room = omega (arith, both, long, size, c.append_number_reserved.ensures.spare, c.loop-i.invariant.room);
       long = omega (arith, both, long, size, c.loop-i.invariant.long);
-      so_far = ap (λ (l : List Bool). l ++ bits_of (w - 64 * (i + 1)) (c.loop-i.rest / 18446744073709551616)) added
-          ∙ word_more c.loop-i.value.items (w - 64 * i) m (w - 64 * (i + 1)) c.loop-i.rest (bits_of w c.args.n) (omega arith) (omega arith) c.loop-i.invariant.so_far;
+      so_far =
+          ap (λ (l : List Bool). l ++ bits_of (w - 64 * (i + 1)) (c.loop-i.rest / 18446744073709551616)) added
+          ∙ word_more c.loop-i.value.items (w - 64 * i) m (w - 64 * (i + 1)) c.loop-i.rest
+          (bits_of w c.args.n) (omega arith) (omega arith) c.loop-i.invariant.so_far;
     }
 
 pub returns : goal.returns
@@ -40,6 +44,9 @@ returns c =
     let w = c.args.width in
     let xs = c.loop-i.value.items in
     let none : 0 ≡ w - 64 * c.loop-i.i = omega arith in
-    let value : xs ≡ bits_of w c.args.n = sym (append-nil xs) ∙ ap (λ k. xs ++ bits_of k c.loop-i.rest) none ∙ c.loop-i.invariant.so_far in
-    let care = c.fill.ensures.items ∙ ap (λ k. replicate k true) (ap length c.in_ok-care.ensures ∙ length-replicate w false) in
-    ap (open_bits xs) care ∙ all_ones xs w (ap length value ∙ length-bits_of w c.args.n) ∙ ap (map (λ bit. Some bit)) value
+    let value : xs ≡ bits_of w c.args.n =
+    sym (append-nil xs) ∙ ap (λ k. xs ++ bits_of k c.loop-i.rest) none ∙ c.loop-i.invariant.so_far in
+    let care = c.fill.ensures.items
+    ∙ ap (λ k. replicate k true) (ap length c.in_ok-care.ensures ∙ length-replicate w false) in
+    ap (open_bits xs) care ∙ all_ones xs w (ap length value ∙ length-bits_of w c.args.n)
+    ∙ ap (map (λ bit. Some bit)) value

@@ -10,5 +10,7 @@ no_less : (w : ℕ) → 128 ≤ w → IsTrue (nat_lt w 128) → ⊥
 no_less w le h = grind (arith, nat_tests)
 
 pub returns-else-width-lt128 : goal.returns-else-width-lt128
-returns-else-width-lt128 c =
-    (λ h. absurd (no_less c.args.width c.if-width-lt128.false h), λ h. absurd (beyond c.args.n c.args.width c.ranges.n.fits c.if-width-lt128.false h))
+returns-else-width-lt128 c = (
+  λ h. absurd (no_less c.args.width c.if-width-lt128.false h),
+  λ h. absurd (beyond c.args.n c.args.width c.ranges.n.fits c.if-width-lt128.false h),
+)

@@ -10,5 +10,6 @@ returns c =
     let t = c.args.t.now in
     let long = open_length t.value.items t.care.items t.same_length in (
       λ h. absurd (false_is h),
-      λ w. absurd (w.3 (c.loop-k.invariant w.0 w.1 (let lt = w.2 in omega (arith, lt, long, c.len-k-end.ensures.value, c.loop-k-test.false)))),
+      λ w. absurd (w.3 (c.loop-k.invariant w.0 w.1 (let lt = w.2 in
+          omega (arith, lt, long, c.len-k-end.ensures.value, c.loop-k-test.false)))),
     )

@@ -10,5 +10,7 @@ pub returns-in-Err-clause-part : goal.returns-in-Err-clause-part
 returns-in-Err-clause-part g c =
     let work = (g.E.Effect.table_row c.args.effect.now).leaves (seen_accepted c.args.it.now) in
     let old = seen g.S.Shelf.files g.O.Sink.taken c.args.shelf.now c.args.out.now in
-    subst (λ (printed : Option (List ℕ)). IsPartOf work old (record { files = g.S.Shelf.files c.act.new.shelf; printed = printed })) (sym c.flush.ensures.kept)
-    (done_is_part work old (seen g.S.Shelf.files g.O.Sink.taken c.act.new.shelf c.act.new.out) (differing c.in_ok-verdict.verdict) c.in_ok-verdict.ensures.done)
+    subst (λ (printed : Option (List ℕ)). IsPartOf work old
+    (record { files = g.S.Shelf.files c.act.new.shelf; printed = printed })) (sym c.flush.ensures.kept)
+    (done_is_part work old (seen g.S.Shelf.files g.O.Sink.taken c.act.new.shelf c.act.new.out)
+    (differing c.in_ok-verdict.verdict) c.in_ok-verdict.ensures.done)

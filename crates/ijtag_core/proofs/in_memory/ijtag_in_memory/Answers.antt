@@ -15,7 +15,8 @@ returns-clause-refuses c =
     let words = command_in c.args.words.now.items in
     let old = world c.args.shelf.now c.args.out.now c.args.err.now in
     let new = world c.ijtag.new.shelf c.ijtag.new.out c.ijtag.new.err in
-    refuses_sure task words (sure_files_in c.args.shelf.now) no_faults c.ijtag.result (λ name rose. omega (arith, rose)) (λ name rose. omega (arith, rose))
+    refuses_sure task words (sure_files_in c.args.shelf.now) no_faults c.ijtag.result
+    (λ name rose. omega (arith, rose)) (λ name rose. omega (arith, rose))
     (by_status in_memory task usage_line old new c.ijtag.result words c.ijtag.ensures.run).refuses
 
 pub returns-clause-complete : goal.returns-clause-complete
@@ -23,4 +24,5 @@ returns-clause-complete c =
     let words = command_in c.args.words.now.items in
     let old = world c.args.shelf.now c.args.out.now c.args.err.now in
     let new = world c.ijtag.new.shelf c.ijtag.new.out c.ijtag.new.err in
-    complete_sure task words (sure_files_in c.args.shelf.now) c.ijtag.result (by_status in_memory task usage_line old new c.ijtag.result words c.ijtag.ensures.run).complete
+    complete_sure task words (sure_files_in c.args.shelf.now) c.ijtag.result
+    (by_status in_memory task usage_line old new c.ijtag.result words c.ijtag.ensures.run).complete

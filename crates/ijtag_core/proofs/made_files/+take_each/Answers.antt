@@ -13,7 +13,8 @@ use Rattle.ijtag_core.proofs.made_files.+take_each.Goals as goal
 pub returns-in-empty : goal.returns-in-empty
 returns-in-empty t c =
     let files : List MadeFile = c.args.files.now in
-    subst (λ (fs : List MadeFile). (taken (map seen_file fs)).gives (map text_of fs)) (sym (none_left files c.in-empty.len_below)) refl
+    subst (λ (fs : List MadeFile). (taken (map seen_file fs)).gives (map text_of fs))
+    (sym (none_left files c.in-empty.len_below)) refl
 
 pub returns-in_err-take_one-in-len1-up : goal.returns-in_err-take_one-in-len1-up
 returns-in_err-take_one-in-len1-up t c =
@@ -22,7 +23,9 @@ returns-in_err-take_one-in-len1-up t c =
     let rest : List Written = map seen_file (others_of files) in
     let are : map seen_file files ≡ first ∷ rest = seen_cut files c.in-len1-up.len_at_least in
     let fault : StageFault = c.in_err-take_one-in-len1-up.field-0.0 in
-    let is : IsFault (taken (map seen_file files)) fault = subst (λ (ws : List Written). IsFault (taken ws) fault) (sym are) (first_refused first rest fault c.in_err-take_one-in-len1-up.ensures) in
+    let is : IsFault (taken (map seen_file files)) fault =
+    subst (λ (ws : List Written). IsFault (taken ws) fault) (sym are)
+    (first_refused first rest fault c.in_err-take_one-in-len1-up.ensures) in
     follows_fault (taken (map seen_file files)) _ c.from_residual.result fault c.from_residual.ensures.1 is
 
 pub returns-in_err-take_each-in-len1-up : goal.returns-in_err-take_each-in-len1-up
@@ -33,11 +36,17 @@ returns-in_err-take_each-in-len1-up t c =
     let are : map seen_file files ≡ first ∷ rest = seen_cut files c.in-len1-up.len_at_least in
     let fault : StageFault = c.in_err-take_each-in-len1-up.field-0.0 in
     let is : IsFault (taken (map seen_file files)) fault =
-    subst (λ (ws : List Written). IsFault (taken ws) fault) (sym are) (later_refused first rest first.bytes fault c.in_ok-take_one-in-len1-up.ensures c.in_err-take_each-in-len1-up.ensures) in
-    follows_fault (taken (map seen_file files)) _ c.from_residual-in_err-take_each-in-len1-up.result fault c.from_residual-in_err-take_each-in-len1-up.ensures.1 is
+    subst (λ (ws : List Written). IsFault (taken ws) fault) (sym are) (later_refused first rest first.bytes
+    fault c.in_ok-take_one-in-len1-up.ensures c.in_err-take_each-in-len1-up.ensures) in
+    follows_fault (taken (map seen_file files)) _ c.from_residual-in_err-take_each-in-len1-up.result fault
+    c.from_residual-in_err-take_each-in-len1-up.ensures.1 is
 
 pub returns-in_ok-take_each-in-len1-up : goal.returns-in_ok-take_each-in-len1-up
 returns-in_ok-take_each-in-len1-up t c =
     let files : List MadeFile = c.args.files.now in
-    subst (λ (fs : List MadeFile). (taken (map seen_file fs)).gives (map text_of fs)) (sym (cut files c.in-len1-up.len_at_least))
-    (text_of (first_of files), c.in_ok-take_one-in-len1-up.ensures, (map text_of (others_of files), c.in_ok-take_each-in-len1-up.ensures, refl))
+    subst (λ (fs : List MadeFile). (taken (map seen_file fs)).gives (map text_of fs))
+    (sym (cut files c.in-len1-up.len_at_least)) (
+      text_of (first_of files),
+      c.in_ok-take_one-in-len1-up.ensures,
+      (map text_of (others_of files), c.in_ok-take_each-in-len1-up.ensures, refl),
+    )

@@ -15,6 +15,7 @@ returns-then-file c =
     let w : Written = seen_file c.args.file.now in
     let named : c.as_bytes.result.now ≡ w.name = c.as_bytes.ensures.value ∙ c.in_ok-name.ensures in
     let told : IsToldAs (Some (refused_name File (codes "Long") w.name)) c.refused_name.result =
-    subst (λ (n : List ℕ). IsToldAs (Some (refused_name File (codes "Long") n)) c.refused_name.result) named c.refused_name.ensures in
+    subst (λ (n : List ℕ). IsToldAs (Some (refused_name File (codes "Long") n)) c.refused_name.result)
+    named c.refused_name.ensures in
     let long : 16777216 < length w.bytes = omega arith in
     told_one (taken_one w) (refused_name File (codes "Long") w.name) c.refused_name.result told (long, refl)

@@ -32,7 +32,8 @@ returns-in-Ok-clause-stores g c =
     let named : c.as_str.result.now ≡ w.name = c.as_str.ensures.value ∙ c.in_ok-name.ensures in
     let before : List ℕ → ℕ = g.S.Shelf.store_faults c.args.shelf.now in
     let now : List ℕ → ℕ = g.S.Shelf.store_faults c.write_file.new.shelf in
-    let rise : OnlyTheseRise (c.as_str.result.now ∷ []) before now = λ other none. c.write_file.ensures.cause.others other none.0 in
+    let rise : OnlyTheseRise (c.as_str.result.now ∷ []) before now =
+    λ other none. c.write_file.ensures.cause.others other none.0 in
     subst (λ (n : List ℕ). OnlyTheseRise (n ∷ []) before now) named rise
 
 -- ---- a store failed
@@ -59,7 +60,8 @@ returns-in-Err-Failed-clause-stop g c =
     let named : c.as_str.result.now ≡ w.name = c.as_str.ensures.value ∙ c.in_ok-name.ensures in
     let before : List ℕ → ℕ = g.S.Shelf.store_faults c.args.shelf.now in
     let now : List ℕ → ℕ = g.S.Shelf.store_faults c.write_file.new.shelf in
-    let rose : Rose (before c.as_str.result.now) (now c.as_str.result.now) = c.write_file.ensures.cause.failed (search rules) in
+    let rose : Rose (before c.as_str.result.now) (now c.as_str.result.now) =
+    c.write_file.ensures.cause.failed (search rules) in
     (inl refl, subst (λ (n : List ℕ). Rose (before n) (now n)) named rose)
 
 pub returns-in-Err-Failed-clause-stores : goal.returns-in-Err-Failed-clause-stores
@@ -68,7 +70,8 @@ returns-in-Err-Failed-clause-stores g c =
     let named : c.as_str.result.now ≡ w.name = c.as_str.ensures.value ∙ c.in_ok-name.ensures in
     let before : List ℕ → ℕ = g.S.Shelf.store_faults c.args.shelf.now in
     let now : List ℕ → ℕ = g.S.Shelf.store_faults c.write_file.new.shelf in
-    let rise : OnlyTheseRise (c.as_str.result.now ∷ []) before now = λ other none. c.write_file.ensures.cause.others other none.0 in
+    let rise : OnlyTheseRise (c.as_str.result.now ∷ []) before now =
+    λ other none. c.write_file.ensures.cause.others other none.0 in
     subst (λ (n : List ℕ). OnlyTheseRise (n ∷ []) before now) named rise
 
 -- ---- there was no memory
@@ -95,5 +98,6 @@ returns-clause-stores g c =
     let named : c.as_str.result.now ≡ w.name = c.as_str.ensures.value ∙ c.in_ok-name.ensures in
     let before : List ℕ → ℕ = g.S.Shelf.store_faults c.args.shelf.now in
     let now : List ℕ → ℕ = g.S.Shelf.store_faults c.write_file.new.shelf in
-    let rise : OnlyTheseRise (c.as_str.result.now ∷ []) before now = λ other none. c.write_file.ensures.cause.others other none.0 in
+    let rise : OnlyTheseRise (c.as_str.result.now ∷ []) before now =
+    λ other none. c.write_file.ensures.cause.others other none.0 in
     subst (λ (n : List ℕ). OnlyTheseRise (n ∷ []) before now) named rise

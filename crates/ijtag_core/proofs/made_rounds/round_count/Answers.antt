@@ -11,9 +11,12 @@ count_rounds-requires c =
     let it = c.args.it.now in
     let procedure = c.procedure.result.now in
     subst (λ (b : BitStepsOf). rounds_in b.steps ≤ 4096) (sym c.in_ok-steps.ensures)
-    (c.bit_steps_are_few.ensures.rounds (seen_procs procedure.procs) it.network.net it.network.form procedure.name.items)
+    (c.bit_steps_are_few.ensures.rounds
+    (seen_procs procedure.procs) it.network.net it.network.form procedure.name.items)
 
 pub returns : goal.returns
 returns c =
-    let same : c.in_ok-steps.steps.steps ≡ (seen_accepted c.args.it.now).steps = ap (λ (b : BitStepsOf). b.steps) c.in_ok-steps.ensures ∙ sym c.procedure.ensures.is in
-    subst (λ (steps : List SeenStep). IfOk c.count_rounds.result (λ (n : ℕ). n ≡ rounds_in steps)) same c.count_rounds.ensures
+    let same : c.in_ok-steps.steps.steps ≡ (seen_accepted c.args.it.now).steps =
+    ap (λ (b : BitStepsOf). b.steps) c.in_ok-steps.ensures ∙ sym c.procedure.ensures.is in
+    subst (λ (steps : List SeenStep). IfOk c.count_rounds.result (λ (n : ℕ). n ≡ rounds_in steps))
+    same c.count_rounds.ensures

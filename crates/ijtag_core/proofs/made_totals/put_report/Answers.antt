@@ -10,4 +10,5 @@ pub returns-in_err-flush-clause-part : goal.returns-in_err-flush-clause-part
 returns-in_err-flush-clause-part g c =
     let text : List ℕ = made_totals (seen_accepted c.args.it.now) c.args.commands.now in
     at_refusal _
-    (subst (λ (now : Option (List ℕ)). AddsPart (g.O.Sink.taken c.args.out.now) now text) (sym c.flush.ensures.kept) (adds_all c.in_ok-verdict.ensures.printed))
+    (subst (λ (now : Option (List ℕ)). AddsPart (g.O.Sink.taken c.args.out.now) now text)
+    (sym c.flush.ensures.kept) (adds_all c.in_ok-verdict.ensures.printed))

@@ -18,10 +18,13 @@ returns-in_err-differs-clause-part g c =
     let it : SeenAccepted = seen_accepted c.args.it.now in
     let old : Option (List ℕ) = g.O.Sink.taken c.args.out.now in
     let new : Option (List ℕ) = g.O.Sink.taken c.put_play.new.k in
-    let models : map seen_model c.models.result.now.items ≡ it.models = ap (λ (ms : List Model). map seen_model ms) c.models.ensures ∙ sym c.models-models.ensures.is in
+    let models : map seen_model c.models.result.now.items ≡ it.models =
+    ap (λ (ms : List Model). map seen_model ms) c.models.ensures ∙ sym c.models-models.ensures.is in
     let part : AddsPart old new (report_of it) =
-    subst (λ (cs : List SeenCommand). AddsPart old new (play_report it.network.net it.device it.models cs)) (sym c.commands-commands.ensures.is)
-    (subst (λ (ms : List SeenModel). AddsPart old new (play_report it.network.net it.device ms c.commands-commands.result.now)) models c.in_err-differs.ensures.part) in
+    subst (λ (cs : List SeenCommand). AddsPart old new (play_report it.network.net it.device it.models cs))
+    (sym c.commands-commands.ensures.is)
+    (subst (λ (ms : List SeenModel). AddsPart old new (play_report it.network.net it.device ms
+    c.commands-commands.result.now)) models c.in_err-differs.ensures.part) in
     at_refusal _ part
 
 pub returns-clause-printed : goal.returns-clause-printed
@@ -30,14 +33,21 @@ returns-clause-printed g c =
     let it : SeenAccepted = seen_accepted c.args.it.now in
     let old : Option (List ℕ) = g.O.Sink.taken c.args.out.now in
     let new : Option (List ℕ) = g.O.Sink.taken c.put_play.new.k in
-    let models : map seen_model c.models.result.now.items ≡ it.models = ap (λ (ms : List Model). map seen_model ms) c.models.ensures ∙ sym c.models-models.ensures.is in
-    subst (λ (cs : List SeenCommand). Adds old new (play_report it.network.net it.device it.models cs)) (sym c.commands-commands.ensures.is)
-    (subst (λ (ms : List SeenModel). Adds old new (play_report it.network.net it.device ms c.commands-commands.result.now)) models c.in_ok-differs.ensures.whole)
+    let models : map seen_model c.models.result.now.items ≡ it.models =
+    ap (λ (ms : List Model). map seen_model ms) c.models.ensures ∙ sym c.models-models.ensures.is in
+    subst (λ (cs : List SeenCommand). Adds old new (play_report it.network.net it.device it.models cs))
+    (sym c.commands-commands.ensures.is)
+    (subst (λ (ms : List SeenModel). Adds old new (play_report it.network.net it.device ms
+    c.commands-commands.result.now)) models c.in_ok-differs.ensures.whole)
 
 pub returns-clause-verdict : goal.returns-clause-verdict
 returns-clause-verdict g c =
     let it : SeenAccepted = seen_accepted c.args.it.now in
-    let models : map seen_model c.models.result.now.items ≡ it.models = ap (λ (ms : List Model). map seen_model ms) c.models.ensures ∙ sym c.models-models.ensures.is in
-    verdict_is _ (differs_of it.network.net it.device it.models it.commands) (differing c.of_count.result) _ c.of_count.ensures.none c.of_count.ensures.some c.in_ok-differs.ensures.differs
-    (ap (λ (ms : List SeenModel). differs_of it.network.net it.device ms c.commands-commands.result.now) models
-    ∙ ap (λ (cs : List SeenCommand). differs_of it.network.net it.device it.models cs) (sym c.commands-commands.ensures.is))
+    let models : map seen_model c.models.result.now.items ≡ it.models =
+    ap (λ (ms : List Model). map seen_model ms) c.models.ensures ∙ sym c.models-models.ensures.is in
+    verdict_is _ (differs_of it.network.net it.device it.models it.commands) (differing c.of_count.result) _
+    c.of_count.ensures.none c.of_count.ensures.some c.in_ok-differs.ensures.differs
+    (ap (λ (ms : List SeenModel). differs_of it.network.net it.device ms c.commands-commands.result.now)
+    models
+    ∙ ap (λ (cs : List SeenCommand). differs_of it.network.net it.device it.models cs)
+    (sym c.commands-commands.ensures.is))

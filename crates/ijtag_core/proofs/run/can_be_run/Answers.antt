@@ -10,9 +10,12 @@ returns c =
     let procs = seen_procs c.args.procedure.now.procs in
     let name = c.args.procedure.now.name.items in
     record {
-      network = record { well_formed = nested.well_formed; describes = nested.describes; lawful = nested.lawful };
+      network =
+          record { well_formed = nested.well_formed; describes = nested.describes; lawful = nested.lawful };
       no_fault = c.requires.ends.ends;
-      plannable = plannable c.bit_steps_are_of_the_network.ensures.steps c.bit_steps_are_of_the_network.ensures.paths c.procedures_are_plannable.ensures.steps procs net form name nested.well_formed nested.describes;
+      plannable =
+          plannable c.bit_steps_are_of_the_network.ensures.steps c.bit_steps_are_of_the_network.ensures.paths
+          c.procedures_are_plannable.ensures.steps procs net form name nested.well_formed nested.describes;
       few = record {
         few_steps = c.bit_steps_are_few.ensures.steps procs net form name;
         few_rounds = c.bit_steps_are_few.ensures.rounds procs net form name;

@@ -11,6 +11,9 @@ put_svf-told-requires-clause-plannable c =
     let network = c.args.it.now.network in
     let nested = c.requires.usable.nested in
     let procedure = c.procedure.result.now in
-    subst (λ (b : BitStepsOf). All (StepIsPlannable network.net network.form) b.steps) (sym c.in_ok-steps.ensures)
-    (plannable c.bit_steps_are_of_the_network.ensures.steps c.bit_steps_are_of_the_network.ensures.paths c.procedures_are_plannable.ensures.steps (seen_procs procedure.procs) network.net network.form procedure.name.items
+    subst (λ (b : BitStepsOf). All (StepIsPlannable network.net network.form) b.steps)
+    (sym c.in_ok-steps.ensures)
+    (plannable c.bit_steps_are_of_the_network.ensures.steps c.bit_steps_are_of_the_network.ensures.paths
+    c.procedures_are_plannable.ensures.steps
+    (seen_procs procedure.procs) network.net network.form procedure.name.items
     nested.well_formed nested.describes)

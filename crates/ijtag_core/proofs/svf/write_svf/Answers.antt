@@ -19,8 +19,11 @@ put_svf_file-told-requires-clause-plannable g c =
     let network = c.args.it.now.network in
     let nested = c.requires.usable.nested in
     let procedure = c.procedure.result.now in
-    subst (λ (b : BitStepsOf). All (StepIsPlannable network.net network.form) b.steps) (sym c.in_ok-steps.ensures)
-    (plannable c.bit_steps_are_of_the_network.ensures.steps c.bit_steps_are_of_the_network.ensures.paths c.procedures_are_plannable.ensures.steps (seen_procs procedure.procs) network.net network.form procedure.name.items
+    subst (λ (b : BitStepsOf). All (StepIsPlannable network.net network.form) b.steps)
+    (sym c.in_ok-steps.ensures)
+    (plannable c.bit_steps_are_of_the_network.ensures.steps c.bit_steps_are_of_the_network.ensures.paths
+    c.procedures_are_plannable.ensures.steps
+    (seen_procs procedure.procs) network.net network.form procedure.name.items
     nested.well_formed nested.describes)
 
 pub returns-clause-whole : goal.returns-clause-whole
@@ -28,11 +31,17 @@ returns-clause-whole g c =
     let it : SeenAccepted = seen_accepted c.args.it.now in
     let old : Option Files = g.S.Shelf.files c.args.shelf.now in
     let new : Option Files = g.S.Shelf.files c.put_svf_file-told.new.shelf in
-    let steps : c.in_ok-steps.steps.steps ≡ it.steps = ap (λ (b : BitStepsOf). b.steps) c.in_ok-steps.ensures ∙ sym c.procedure.ensures.is in
-    let text : HasScript it.network.net it.network.form it.device it.steps = subst (λ (ss : List SeenStep). HasScript it.network.net it.network.form it.device ss) steps c.put_svf_file-told.ensures.text in
-    let right : ScriptIsRight it.network.net it.network.form it.device it.steps = subst (λ (ss : List SeenStep). ScriptIsRight it.network.net it.network.form it.device ss) steps c.put_svf_file-told.ensures.right in
+    let steps : c.in_ok-steps.steps.steps
+    ≡ it.steps = ap (λ (b : BitStepsOf). b.steps) c.in_ok-steps.ensures ∙ sym c.procedure.ensures.is in
+    let text : HasScript it.network.net it.network.form it.device it.steps =
+    subst (λ (ss : List SeenStep). HasScript it.network.net it.network.form it.device ss)
+    steps c.put_svf_file-told.ensures.text in
+    let right : ScriptIsRight it.network.net it.network.form it.device it.steps =
+    subst (λ (ss : List SeenStep). ScriptIsRight it.network.net it.network.form it.device ss)
+    steps c.put_svf_file-told.ensures.right in
     on_ok_weaker c.put_svf_file-told.result
-    (λ h. is_filed it text right old new c.args.name.now (subst (λ (ss : List SeenStep). HoldsScript it.network.net it.network.form it.device ss old new c.args.name.now) steps h))
+    (λ h. is_filed it text right old new c.args.name.now (subst (λ (ss : List SeenStep). HoldsScript
+    it.network.net it.network.form it.device ss old new c.args.name.now) steps h))
     c.put_svf_file-told.ensures.whole
 
 pub returns-clause-part : goal.returns-clause-part
@@ -40,17 +49,28 @@ returns-clause-part g c =
     let it : SeenAccepted = seen_accepted c.args.it.now in
     let old : Option Files = g.S.Shelf.files c.args.shelf.now in
     let new : Option Files = g.S.Shelf.files c.put_svf_file-told.new.shelf in
-    let steps : c.in_ok-steps.steps.steps ≡ it.steps = ap (λ (b : BitStepsOf). b.steps) c.in_ok-steps.ensures ∙ sym c.procedure.ensures.is in
-    let text : HasScript it.network.net it.network.form it.device it.steps = subst (λ (ss : List SeenStep). HasScript it.network.net it.network.form it.device ss) steps c.put_svf_file-told.ensures.text in
-    let right : ScriptIsRight it.network.net it.network.form it.device it.steps = subst (λ (ss : List SeenStep). ScriptIsRight it.network.net it.network.form it.device ss) steps c.put_svf_file-told.ensures.right in
+    let steps : c.in_ok-steps.steps.steps
+    ≡ it.steps = ap (λ (b : BitStepsOf). b.steps) c.in_ok-steps.ensures ∙ sym c.procedure.ensures.is in
+    let text : HasScript it.network.net it.network.form it.device it.steps =
+    subst (λ (ss : List SeenStep). HasScript it.network.net it.network.form it.device ss)
+    steps c.put_svf_file-told.ensures.text in
+    let right : ScriptIsRight it.network.net it.network.form it.device it.steps =
+    subst (λ (ss : List SeenStep). ScriptIsRight it.network.net it.network.form it.device ss)
+    steps c.put_svf_file-told.ensures.right in
     on_err_weaker c.put_svf_file-told.result
-    (λ h. inr (part_filed it text right old new c.args.name.now (subst (λ (ss : List SeenStep). HoldsScriptPart it.network.net it.network.form it.device ss old new c.args.name.now) steps h)))
+    (λ h. inr (part_filed it text right old new c.args.name.now (subst (λ (ss : List SeenStep).
+    HoldsScriptPart it.network.net it.network.form it.device ss old new c.args.name.now) steps h)))
     c.put_svf_file-told.ensures.part
 
 pub returns-clause-text : goal.returns-clause-text
 returns-clause-text g c =
     let it : SeenAccepted = seen_accepted c.args.it.now in
-    let steps : c.in_ok-steps.steps.steps ≡ it.steps = ap (λ (b : BitStepsOf). b.steps) c.in_ok-steps.ensures ∙ sym c.procedure.ensures.is in
-    let text : HasScript it.network.net it.network.form it.device it.steps = subst (λ (ss : List SeenStep). HasScript it.network.net it.network.form it.device ss) steps c.put_svf_file-told.ensures.text in
-    let right : ScriptIsRight it.network.net it.network.form it.device it.steps = subst (λ (ss : List SeenStep). ScriptIsRight it.network.net it.network.form it.device ss) steps c.put_svf_file-told.ensures.right in
+    let steps : c.in_ok-steps.steps.steps
+    ≡ it.steps = ap (λ (b : BitStepsOf). b.steps) c.in_ok-steps.ensures ∙ sym c.procedure.ensures.is in
+    let text : HasScript it.network.net it.network.form it.device it.steps =
+    subst (λ (ss : List SeenStep). HasScript it.network.net it.network.form it.device ss)
+    steps c.put_svf_file-told.ensures.text in
+    let right : ScriptIsRight it.network.net it.network.form it.device it.steps =
+    subst (λ (ss : List SeenStep). ScriptIsRight it.network.net it.network.form it.device ss)
+    steps c.put_svf_file-told.ensures.right in
     λ failed. has_text it text right

@@ -18,9 +18,13 @@ returns-in-Err-clause-follows c =
     let procs = seen_procs c.args.procs.now in
     let name = c.args.name.now in
     let of = seen_net network.net in
-    let named : EndsIn (bit_steps (map seen_proc c.as_slice.result.now) network.net network.form name).fault c.in-Err.fault =
-    subst (λ (n : List ℕ). EndsIn (bit_steps (map seen_proc c.as_slice.result.now) network.net network.form n).fault c.in-Err.fault) c.as_bytes.ensures.value c.in-Err.ensures.refused in
+    let named : EndsIn
+    (bit_steps (map seen_proc c.as_slice.result.now) network.net network.form name).fault c.in-Err.fault =
+    subst (λ (n : List ℕ). EndsIn (bit_steps (map seen_proc c.as_slice.result.now) network.net network.form
+    n).fault c.in-Err.fault) c.as_bytes.ensures.value c.in-Err.ensures.refused in
     let ends : EndsIn (bit_steps procs network.net network.form name).fault c.in-Err.fault =
-    subst (λ (ps : List Proc). EndsIn (bit_steps (map seen_proc ps) network.net network.form name).fault c.in-Err.fault) c.as_slice.ensures named in
-    told_fault (procedure procs (seen_network network) name) (option_map (step_refusal of) (fault_of c.in-Err.fault)) c.told.result c.told.ensures
+    subst (λ (ps : List Proc). EndsIn (bit_steps (map seen_proc ps) network.net network.form name).fault
+    c.in-Err.fault) c.as_slice.ensures named in
+    told_fault (procedure procs (seen_network network) name)
+    (option_map (step_refusal of) (fault_of c.in-Err.fault)) c.told.result c.told.ensures
     (λ r told. ends_told (bit_steps procs network.net network.form name).fault of c.in-Err.fault r ends told)

@@ -10,22 +10,28 @@ use Rattle.ijtag_tests.proofs.direct_values.do_steps.Goals as goal
 
 pub loop-step-preserved-in_ok-step-2 : goal.loop-step-preserved-in_ok-step-2
 loop-step-preserved-in_ok-step-2 c =
-    let given = subst (λ o. MatchOption o (c.loop-step.steps ≡ nothing_left) (λ s. c.loop-step.steps ≡ given_first_bit (seen_step s) c.next_step.new.steps)) c.in-Some.is c.in_ok-step.ensures.given in
+    let given = subst (λ o. MatchOption o (c.loop-step.steps ≡ nothing_left) (λ s. c.loop-step.steps
+    ≡ given_first_bit (seen_step s) c.next_step.new.steps)) c.in-Some.is c.in_ok-step.ensures.given in
     let net = c.loop-step.direct.net in
     let left = c.next_step.new.steps.steps in
     let all = subst (All (IsStep net)) (ap (λ (b : BitStepsOf). b.steps) given) c.loop-step.invariant.steps in
     record {
-      steps = subst (λ (n : Net). All (IsStep n) left) (sym (ap (λ (d : SeenDirect). d.net) c.in_ok-step-2.ensures.ok)) (All-tail (IsStep net) (seen_step c.in-Some.step) left all);
+      steps = subst (λ (n : Net). All (IsStep n) left)
+          (sym (ap (λ (d : SeenDirect). d.net) c.in_ok-step-2.ensures.ok))
+          (All-tail (IsStep net) (seen_step c.in-Some.step) left all);
       insts = c.step.ensures.insts ∙ c.loop-step.invariant.insts;
     }
 
 pub loop-step-preserved : goal.loop-step-preserved
 loop-step-preserved c =
-    let given = subst (λ o. MatchOption o (c.loop-step.steps ≡ nothing_left) (λ s. c.loop-step.steps ≡ given_first_bit (seen_step s) c.next_step.new.steps)) c.in-Some.is c.in_ok-step.ensures.given in
+    let given = subst (λ o. MatchOption o (c.loop-step.steps ≡ nothing_left) (λ s. c.loop-step.steps
+    ≡ given_first_bit (seen_step s) c.next_step.new.steps)) c.in-Some.is c.in_ok-step.ensures.given in
     let net = c.loop-step.direct.net in
     let left = c.next_step.new.steps.steps in
     let all = subst (All (IsStep net)) (ap (λ (b : BitStepsOf). b.steps) given) c.loop-step.invariant.steps in
     record {
-      steps = subst (λ (n : Net). All (IsStep n) left) (sym (ap (λ (d : SeenDirect). d.net) c.in_ok-step-2.ensures.ok)) (All-tail (IsStep net) (seen_step c.in-Some.step) left all);
+      steps = subst (λ (n : Net). All (IsStep n) left)
+          (sym (ap (λ (d : SeenDirect). d.net) c.in_ok-step-2.ensures.ok))
+          (All-tail (IsStep net) (seen_step c.in-Some.step) left all);
       insts = c.step.ensures.insts ∙ c.loop-step.invariant.insts;
     }

@@ -11,4 +11,5 @@ taken P (Err f) x p e = absurd (none-some x e)
 
 pub done_text-requires-clause-usable : goal.done_text-requires-clause-usable
 done_text-requires-clause-usable g c =
-    (taken _ c.accept.result c.expect-it.result c.accept.ensures.can (sym c.ok.ensures.value ∙ c.expect-it.ensures)).usable
+    (taken _ c.accept.result c.expect-it.result c.accept.ensures.can
+    (sym c.ok.ensures.value ∙ c.expect-it.ensures)).usable

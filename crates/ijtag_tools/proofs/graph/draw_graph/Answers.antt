@@ -29,9 +29,12 @@ returns-in-Ok-clause-done g c =
     let drawn : Graph = seen_graph c.in_ok-graph.graph in
     let bytes : List ℕ = c.bytes.result.now in
     let read : (loaded files (graph words).loads).gives texts = c.in_ok-texts.ensures.follows in
-    let is : (graph_in words.network.top texts).gives drawn = subst (λ ts. (graph_in words.network.top (seen_texts ts)).gives drawn) c.deref.ensures.value c.in_ok-graph.ensures.follows in
+    let is : (graph_in words.network.top texts).gives drawn =
+    subst (λ ts. (graph_in words.network.top (seen_texts ts)).gives drawn)
+    c.deref.ensures.value c.in_ok-graph.ensures.follows in
     let own : (work files (graph words)).gives (filed words.new bytes) =
-    subst (λ (b : List ℕ). (work files (graph words)).gives (filed words.new b)) (sym (c.bytes.ensures ∙ c.in_ok-text.ensures)) (texts, read, (drawn, is, refl)) in
+    subst (λ (b : List ℕ). (work files (graph words)).gives (filed words.new b))
+    (sym (c.bytes.ensures ∙ c.in_ok-text.ensures)) (texts, read, (drawn, is, refl)) in
     let same : mid ≡ files = c.in_ok-texts.ensures.files in
     file_done (work files (graph words)) files new (g.O.Sink.taken c.args._out.now) words.new bytes own
     (c.in-Ok.ensures.whole ∙ ap (λ (fs : Option Files). option_map (λ _. Some bytes) fs) same)
@@ -46,16 +49,21 @@ returns-clause-stop g c =
     let drawn : Graph = seen_graph c.in_ok-graph.graph in
     let bytes : List ℕ = c.bytes.result.now in
     let read : (loaded files (graph words).loads).gives texts = c.in_ok-texts.ensures.follows in
-    let is : (graph_in words.network.top texts).gives drawn = subst (λ ts. (graph_in words.network.top (seen_texts ts)).gives drawn) c.deref.ensures.value c.in_ok-graph.ensures.follows in
+    let is : (graph_in words.network.top texts).gives drawn =
+    subst (λ ts. (graph_in words.network.top (seen_texts ts)).gives drawn)
+    c.deref.ensures.value c.in_ok-graph.ensures.follows in
     let own : (work files (graph words)).gives (filed words.new bytes) =
-    subst (λ (b : List ℕ). (work files (graph words)).gives (filed words.new b)) (sym (c.bytes.ensures ∙ c.in_ok-text.ensures)) (texts, read, (drawn, is, refl)) in
+    subst (λ (b : List ℕ). (work files (graph words)).gives (filed words.new b))
+    (sym (c.bytes.ensures ∙ c.in_ok-text.ensures)) (texts, read, (drawn, is, refl)) in
     let same : mid ≡ files = c.in_ok-texts.ensures.files in
     let name : List ℕ = words.new in
     let now : ℕ = g.S.Shelf.store_faults c.write_file.new.shelf name in
-    let k : Counts = counts g.S.Shelf.load_faults g.S.Shelf.store_faults g.O.Sink.faults c.args.shelf.now c.write_file.new.shelf c.args._out.now c.args._out.now in
+    let k : Counts = counts g.S.Shelf.load_faults g.S.Shelf.store_faults g.O.Sink.faults c.args.shelf.now
+    c.write_file.new.shelf c.args._out.now c.args._out.now in
     subst (λ (s : Stop). IsStop files (graph words) k s) (sym c.of_file.ensures.stop)
     (file_stop_of files (graph words) k name c.in-Err.fault (filed name bytes, own) (inl refl)
-    (λ failed. subst (λ (before : ℕ). Rose before now) (c.in_ok-texts.ensures.stores name) (c.in-Err.ensures.cause.failed failed)))
+    (λ failed. subst (λ (before : ℕ). Rose before now) (c.in_ok-texts.ensures.stores name)
+    (c.in-Err.ensures.cause.failed failed)))
 
 pub returns-clause-part : goal.returns-clause-part
 returns-clause-part g c =
@@ -67,9 +75,13 @@ returns-clause-part g c =
     let drawn : Graph = seen_graph c.in_ok-graph.graph in
     let bytes : List ℕ = c.bytes.result.now in
     let read : (loaded files (graph words).loads).gives texts = c.in_ok-texts.ensures.follows in
-    let is : (graph_in words.network.top texts).gives drawn = subst (λ ts. (graph_in words.network.top (seen_texts ts)).gives drawn) c.deref.ensures.value c.in_ok-graph.ensures.follows in
+    let is : (graph_in words.network.top texts).gives drawn =
+    subst (λ ts. (graph_in words.network.top (seen_texts ts)).gives drawn)
+    c.deref.ensures.value c.in_ok-graph.ensures.follows in
     let own : (work files (graph words)).gives (filed words.new bytes) =
-    subst (λ (b : List ℕ). (work files (graph words)).gives (filed words.new b)) (sym (c.bytes.ensures ∙ c.in_ok-text.ensures)) (texts, read, (drawn, is, refl)) in
+    subst (λ (b : List ℕ). (work files (graph words)).gives (filed words.new b))
+    (sym (c.bytes.ensures ∙ c.in_ok-text.ensures)) (texts, read, (drawn, is, refl)) in
     let same : mid ≡ files = c.in_ok-texts.ensures.files in
     begun_in files (graph words) (work files (graph words)) (λ leaves given. given) _ _
-    (file_part (work files (graph words)) files new (g.O.Sink.taken c.args._out.now) words.new bytes own (subst (λ (fs : Option Files). HoldsPart fs new words.new bytes) same c.in-Err.ensures.part))
+    (file_part (work files (graph words)) files new (g.O.Sink.taken c.args._out.now) words.new bytes own
+    (subst (λ (fs : Option Files). HoldsPart fs new words.new bytes) same c.in-Err.ensures.part))

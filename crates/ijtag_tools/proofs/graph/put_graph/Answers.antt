@@ -15,6 +15,8 @@ unfolding graph_text
 returns c =
     let net = c.args.graph.now.net in
     let g = seen_graph c.args.graph.now in
-    subst (λ (m : Option Point). Adds (Some c.args.text.now) (Some c.put_dot.new.k) (comment g.unnested ++ dot_text net (start_holds net) m)) c.marked.ensures
-    (subst (λ (h : Holds). Adds (Some c.args.text.now) (Some c.put_dot.new.k) (comment g.unnested ++ dot_text net h c.marked.result)) c.in_ok-holds.ensures
+    subst (λ (m : Option Point). Adds (Some c.args.text.now) (Some c.put_dot.new.k)
+    (comment g.unnested ++ dot_text net (start_holds net) m)) c.marked.ensures
+    (subst (λ (h : Holds). Adds (Some c.args.text.now) (Some c.put_dot.new.k)
+    (comment g.unnested ++ dot_text net h c.marked.result)) c.in_ok-holds.ensures
     (adds_both c.in_ok-put_comment.ensures c.in_ok-put_dot.ensures.whole))

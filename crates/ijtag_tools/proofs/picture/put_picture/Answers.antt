@@ -20,5 +20,7 @@ returns-in-Dot c =
     let it : SeenAccepted = seen_accepted c.args.it.now in
     let holds : Holds = c.args.holds.now in
     let format : Dot ≡ c.args.format = search rules in
-    subst (λ (f : PictureFormat). OnOk c.put_dot.result (Adds (Some c.args.text.now) (Some c.put_dot.new.k) (drawing_of f it holds))) format
-    (subst (λ (text : List ℕ). OnOk c.put_dot.result (Adds (Some c.args.text.now) (Some c.put_dot.new.k) text)) (graph_is it holds) c.put_dot.ensures.whole)
+    subst (λ (f : PictureFormat). OnOk c.put_dot.result
+    (Adds (Some c.args.text.now) (Some c.put_dot.new.k) (drawing_of f it holds))) format
+    (subst (λ (text : List ℕ). OnOk c.put_dot.result (Adds (Some c.args.text.now)
+    (Some c.put_dot.new.k) text)) (graph_is it holds) c.put_dot.ensures.whole)

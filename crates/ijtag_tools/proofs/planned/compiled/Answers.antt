@@ -11,11 +11,13 @@ pub read_commands-requires : goal.read_commands-requires
 read_commands-requires c =
     let it : SeenAccepted = seen_accepted c.args.it.now in
     let bytes : List ℕ = c.bytes.result.now in
-    let written : (written_text it).gives bytes = subst (λ (b : List ℕ). (written_text it).gives b) (sym c.bytes.ensures) c.in_ok-svf.ensures.text in
+    let written : (written_text it).gives bytes =
+    subst (λ (b : List ℕ). (written_text it).gives b) (sym c.bytes.ensures) c.in_ok-svf.ensures.text in
     record { short = short [] it bytes written; written = found [] it bytes written }
 
 -- the commands of a text
-read_of : (bytes : List ℕ) (commands : List SeenCommand) → (commands_of bytes).gives commands → svf bytes ≡ Ok commands
+read_of : (bytes : List ℕ) (commands : List SeenCommand)
+    → (commands_of bytes).gives commands → svf bytes ≡ Ok commands
 unfolding commands_of
 read_of bytes commands given = given
 
@@ -25,7 +27,8 @@ returns c =
     let text : List ℕ = c.in_ok-svf.svf in
     let written : (written_text it).gives text = c.in_ok-svf.ensures.text in
     let commands : List SeenCommand = c.in_ok-commands.commands in
-    let read : svf text ≡ Ok commands = subst (λ (b : List ℕ). svf b ≡ Ok commands) c.bytes.ensures (read_of c.bytes.result.now commands c.in_ok-commands.ensures.given) in
+    let read : svf text ≡ Ok commands = subst (λ (b : List ℕ). svf b ≡ Ok commands) c.bytes.ensures
+    (read_of c.bytes.result.now commands c.in_ok-commands.ensures.given) in
     record {
       sound = record {
         commands = commands;

@@ -10,9 +10,13 @@ use Rattle.ijtag_tools.proofs.planned.tightest.Goals as goal
 pub returns-then-is_within : goal.returns-then-is_within
 returns-then-is_within c =
     let it : SeenAccepted = seen_accepted c.args.it.now in
-    let sound : IsSound it c.in-Some.planned = subst (λ (found : Option Planned). IfSome found (IsSound it)) c.in-Some.is c.in_ok-planned.ensures in
-    other it c.in_ok-compiled.compiled c.in-Some.planned c.in_ok-least.least c.in_ok-least.ensures c.in_ok-compiled.ensures sound (c.is_within.ensures.0 c.if-is_within.true).0 (c.is_within.ensures.0 c.if-is_within.true).1
+    let sound : IsSound it c.in-Some.planned =
+    subst (λ (found : Option Planned). IfSome found (IsSound it)) c.in-Some.is c.in_ok-planned.ensures in
+    other it c.in_ok-compiled.compiled c.in-Some.planned c.in_ok-least.least c.in_ok-least.ensures
+    c.in_ok-compiled.ensures sound (c.is_within.ensures.0 c.if-is_within.true).0
+    (c.is_within.ensures.0 c.if-is_within.true).1
 
 pub returns : goal.returns
 returns c =
-    own (seen_accepted c.args.it.now) c.in_ok-compiled.compiled c.in_ok-least.least c.in_ok-least.ensures c.in_ok-compiled.ensures
+    own (seen_accepted c.args.it.now) c.in_ok-compiled.compiled c.in_ok-least.least
+    c.in_ok-least.ensures c.in_ok-compiled.ensures

@@ -3,5 +3,11 @@ use Rattle.ijtag_tools.proofs.unnested.find_why.Goals as goal
 
 pub returns-in-Ok : goal.returns-in-Ok
 unfolding form_or_why
-returns-in-Ok c =
-    (c.in-Ok._form, record { well_formed = c.requires; describes = c.in-Ok.ensures.describes; lawful = c.in-Ok.ensures.lawful })
+returns-in-Ok c = (
+  c.in-Ok._form,
+  record {
+    well_formed = c.requires;
+    describes = c.in-Ok.ensures.describes;
+    lawful = c.in-Ok.ensures.lawful;
+  },
+)

@@ -6,4 +6,5 @@ returns-clause-loads c = loads_decided
 
 pub returns-clause-texts : goal.returns-clause-texts
 returns-clause-texts c =
-    accepted_of_decided c.stages_are_decided.ensures c.planned_steps_law.ensures.texts c.places_are_one.ensures.one
+    accepted_of_decided c.stages_are_decided.ensures
+    c.planned_steps_law.ensures.texts c.places_are_one.ensures.one

@@ -8,4 +8,5 @@ returns-clause-decided c =
 
 pub returns-clause-settled : goal.returns-clause-settled
 returns-clause-settled c =
-    all_settled task (work_decided c.stages_are_decided.ensures c.planned_steps_law.ensures.texts c.places_are_one.ensures.one)
+    all_settled task (work_decided c.stages_are_decided.ensures
+    c.planned_steps_law.ensures.texts c.places_are_one.ensures.one)

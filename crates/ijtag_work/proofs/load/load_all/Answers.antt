@@ -15,16 +15,22 @@ returns-in_err-text-clause-follows g c =
     let kept = c.loop-load.invariant in
     let is : c.from_residual.result ≡ Err c.in_err-text.field-0.0 = search rules in
     subst (LoadsAndFollows files _ counts now (loaded files _) _) (sym is)
-    (next_stop files (g.S.Shelf.files c.loop-load.shelf) c.args.loads.now c.loop-load.load-index _ counts (g.S.Shelf.load_faults c.loop-load.shelf) now (seen_stop c.in_err-text.field-0.0) c.loop-load-test.true
+    (next_stop files (g.S.Shelf.files c.loop-load.shelf) c.args.loads.now c.loop-load.load-index _ counts
+    (g.S.Shelf.load_faults c.loop-load.shelf) now
+    (seen_stop c.in_err-text.field-0.0) c.loop-load-test.true
     kept.files kept.given kept.later c.in_err-text.ensures.follows)
 
 pub returns-in_err-text-clause-others : goal.returns-in_err-text-clause-others
 returns-in_err-text-clause-others g c = λ other none.
-    c.load_one.ensures.others other (next_none c.args.loads.now c.loop-load.load-index other c.loop-load-test.true none) ∙ c.loop-load.invariant.others other none
+    c.load_one.ensures.others other
+    (next_none c.args.loads.now c.loop-load.load-index other c.loop-load-test.true none)
+    ∙ c.loop-load.invariant.others other none
 
 pub returns-in_err-push-clause-others : goal.returns-in_err-push-clause-others
 returns-in_err-push-clause-others g c = λ other none.
-    c.load_one.ensures.others other (next_none c.args.loads.now c.loop-load.load-index other c.loop-load-test.true none) ∙ c.loop-load.invariant.others other none
+    c.load_one.ensures.others other
+    (next_none c.args.loads.now c.loop-load.load-index other c.loop-load-test.true none)
+    ∙ c.loop-load.invariant.others other none
 
 pub loop-load-preserved : goal.loop-load-preserved
 loop-load-preserved g c =
@@ -34,14 +40,19 @@ loop-load-preserved g c =
     let text = c.in_ok-text.text in
     let old = c.loop-load.texts.items in
     let more : c.push.new.self.items ≡ old ++ text ∷ [] = c.in_ok-push.ensures.items in
-    let texts : seen_texts old ++ text.items ∷ [] ≡ seen_texts c.push.new.self.items = sym (ap seen_texts more ∙ texts_more old text) in
+    let texts : seen_texts old ++ text.items ∷ []
+    ≡ seen_texts c.push.new.self.items = sym (ap seen_texts more ∙ texts_more old text) in
     record {
       files = c.load_one.ensures.files ∙ kept.files;
-      given = subst (λ (ts : List (List ℕ)). (loaded files (map seen_load (take (i + 1) c.args.loads.now))).gives ts) texts
-          (next_given files (g.S.Shelf.files c.loop-load.shelf) c.args.loads.now i (seen_texts old) text.items c.loop-load-test.true kept.files kept.given c.in_ok-text.ensures.follows);
+      given = subst (λ (ts : List (List ℕ)).
+          (loaded files (map seen_load (take (i + 1) c.args.loads.now))).gives ts) texts
+          (next_given files (g.S.Shelf.files c.loop-load.shelf) c.args.loads.now i (seen_texts old) text.items
+          c.loop-load-test.true kept.files kept.given c.in_ok-text.ensures.follows);
       count = omega (arith, c.in_ok-push.ensures.len, kept.count);
-      short = subst AreShort texts (short_more (seen_texts old) text.items kept.short c.in_ok-text.ensures.fits);
+      short = subst AreShort texts
+          (short_more (seen_texts old) text.items kept.short c.in_ok-text.ensures.fits);
       later = λ any. omega (arith, kept.later any, c.load_one.ensures.later any);
-      others = λ other none. c.load_one.ensures.others other (next_none c.args.loads.now i other c.loop-load-test.true none) ∙ kept.others other none;
+      others = λ other none. c.load_one.ensures.others other
+          (next_none c.args.loads.now i other c.loop-load-test.true none) ∙ kept.others other none;
       stores = λ name. c.load_one.ensures.stores name ∙ kept.stores name;
     }

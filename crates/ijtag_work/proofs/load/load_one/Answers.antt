@@ -16,7 +16,8 @@ returns-in-Ok-clause-follows g c =
     let files : Option Files = g.S.Shelf.files c.args.shelf.now in
     let bytes : List ℕ = c.in-Ok.bytes.items in (
       subst (λ (n : ℕ). length bytes ≤ n) c.limit.ensures c.in-Ok.ensures.short,
-      subst (λ (name : List ℕ). IfSome files (λ f. bytes ≡ bytes_of f name)) c.name-name.ensures c.in-Ok.ensures.bytes,
+      subst (λ (name : List ℕ). IfSome files (λ f. bytes ≡ bytes_of f name))
+          c.name-name.ensures c.in-Ok.ensures.bytes,
     )
 
 pub returns-in-Err-Long-clause-follows : goal.returns-in-Err-Long-clause-follows
@@ -26,7 +27,15 @@ returns-in-Err-Long-clause-follows g c =
     let load : Load = seen_load c.args.load.now in
     let name : c.as_bytes.result.now ≡ load.name = c.as_bytes.ensures.value ∙ c.name-name.ensures in
     let told : IsToldAs (Some (refused_name File (codes "Long") load.name)) c.refused_name-fault.result =
-    subst (λ (n : List ℕ). IsToldAs (Some (refused_name File (codes "Long") n)) c.refused_name-fault.result) name c.refused_name-fault.ensures in
+    subst (λ (n : List ℕ). IsToldAs (Some (refused_name File (codes "Long") n)) c.refused_name-fault.result)
+    name c.refused_name-fault.ensures in
     let long = c.in-Err-Long.ensures.long (search rules) in
-    told_stop files (load ∷ []) (g.S.Shelf.load_faults c.args.shelf.now) (g.S.Shelf.load_faults c.load.new.self) (loaded_one files load) (refused_name File (codes "Long") load.name) c.refused_name-fault.result c.from.result c.from.ensures told
-    (refl, subst (λ (n : List ℕ). IfSome files (λ f. load.limit < length (bytes_of f n))) c.name-name.ensures (subst (λ (n : ℕ). IfSome files (λ f. n < length (bytes_of f c.name-name.result.now))) c.limit.ensures long))
+    told_stop files (load ∷ []) (g.S.Shelf.load_faults c.args.shelf.now)
+    (g.S.Shelf.load_faults c.load.new.self) (loaded_one files load) (refused_name File
+    (codes "Long") load.name) c.refused_name-fault.result c.from.result c.from.ensures told (
+      refl,
+      subst (λ (n : List ℕ). IfSome files (λ f. load.limit < length (bytes_of f n)))
+          c.name-name.ensures (subst
+          (λ (n : ℕ). IfSome files (λ f. n < length (bytes_of f c.name-name.result.now)))
+          c.limit.ensures long),
+    )

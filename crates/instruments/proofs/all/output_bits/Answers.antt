@@ -13,5 +13,8 @@ returns-then-i-len-clause-bits c pos h =
     ap (λ x. bit_at x pos == 1) c.low_bits.ensures
     ∙ ap (λ b. b == 1) (low_bit _ c.args.n pos h)
     ∙ ap (λ n. bit_at n pos == 1) (c.from.ensures ∙ c.output.ensures)
-    ∙ ap (λ (r : Runner). bit_at (output_number (seen_model c.get.result.now) r.machine c.args.port) pos == 1) (sym c.index-runners-i.is)
-    ∙ sym (output_in c.args.models.now.items c.args.runners.now c.args.inst c.args.port pos c.get.result.now c.index-runners-i.result (omega (arith, c.if-i-len.true, c.len.ensures)) c.requires.count c.get.ensures c.index-runners-i.is)
+    ∙ ap (λ (r : Runner). bit_at (output_number (seen_model c.get.result.now) r.machine c.args.port) pos == 1)
+    (sym c.index-runners-i.is)
+    ∙ sym (output_in c.args.models.now.items c.args.runners.now c.args.inst c.args.port pos
+    c.get.result.now c.index-runners-i.result
+    (omega (arith, c.if-i-len.true, c.len.ensures)) c.requires.count c.get.ensures c.index-runners-i.is)

@@ -19,10 +19,16 @@ loop-i-preserved c =
     let model : i < length models = omega (arith, c.loop-i-test.true, c.requires.count) in
     let here : i < length runners = omega (arith, model, v.count) in
     let inst : i < length net.insts.items = omega (arith, model, c.requires.models.count) in
-    let stand : StandFor c.inputs_of-now.result (inputs_at net c.args.holds.now i) = λ port. c.inputs_of-now.ensures port ∙ ap (λ (x : List ℕ). get_or x port 0) (sym (inputs_are net c.args.holds.now i c.get.result.now inst c.get.ensures)) in
-    let shown : StandFor new.inputs (inputs_at net c.args.holds.now i) = λ port. ap (λ (x : List ℕ). get_or x port 0) c.reset.ensures.inputs ∙ stand port in
+    let stand : StandFor c.inputs_of-now.result (inputs_at net c.args.holds.now i) =
+    λ port. c.inputs_of-now.ensures port ∙ ap (λ (x : List ℕ). get_or x port 0)
+    (sym (inputs_are net c.args.holds.now i c.get.result.now inst c.get.ensures)) in
+    let shown : StandFor new.inputs (inputs_at net c.args.holds.now i) =
+    λ port. ap (λ (x : List ℕ). get_or x port 0) c.reset.ensures.inputs ∙ stand port in
     record {
       count = length-set runners i new ∙ v.count;
       seen = seen_step net c.args.holds.now runners i new here shown v.seen;
-      state = turn (had net models Reset c.args.holds.now) runners i d new here (c.reset.ensures.state (inputs_at net c.args.holds.now i) ∙ ap (λ (m : Machine). happens count_log m Reset (inputs_at net c.args.holds.now i) (running_of (get_or runners i d))) (sym (machine_is models i c.get-in-loop-i.result.now model c.get-in-loop-i.ensures))) ∙ v.state;
+      state = turn (had net models Reset c.args.holds.now) runners i d new here
+          (c.reset.ensures.state (inputs_at net c.args.holds.now i) ∙ ap (λ (m : Machine). happens count_log m
+          Reset (inputs_at net c.args.holds.now i) (running_of (get_or runners i d)))
+          (sym (machine_is models i c.get-in-loop-i.result.now model c.get-in-loop-i.ensures))) ∙ v.state;
     }

@@ -10,5 +10,6 @@ abbrev pub invariant-loop-i : goal.invariant-loop-i
 invariant-loop-i l = record {
   count : length l.runners ≡ length l.models.items;
   seen : (k : ℕ) → k < l.i → StandFor (shown_at l.runners k) (inputs_at l.net l.holds k);
-  state : Left (had l.net l.models.items Reset l.holds) l.i l.runners ≡ Left (had l.net l.models.items Reset l.holds) 0 l.fn.runners;
+  state : Left (had l.net l.models.items Reset l.holds) l.i l.runners
+      ≡ Left (had l.net l.models.items Reset l.holds) 0 l.fn.runners;
 }

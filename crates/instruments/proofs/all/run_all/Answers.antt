@@ -20,11 +20,17 @@ loop-i-preserved c =
     record {
       count = length-set runners i new ∙ v.count;
       shown = shown_kept runners i d new here c.run.ensures.inputs ∙ v.shown;
-      state = λ net holds run. let was : StandFor (get_or runners i d).inputs (inputs_at net holds i) = λ port. ap (λ (x : List ℕ). get_or x port 0) (sym (shown_is runners i d here) ∙ shown_of runners c.args.runners.now i v.shown) ∙ run.shown i port in
-          turn (had net models Run holds) runners i d new here (c.run.ensures.state (inputs_at net holds i) was ∙ ap (λ (m : Machine). happens count_log m Run (inputs_at net holds i) (running_of (get_or runners i d))) (sym (machine_is models i c.get.result.now model c.get.ensures))) ∙ v.state net holds run;
+      state = λ net holds run. let was : StandFor (get_or runners i d).inputs (inputs_at net holds i) =
+          λ port. ap (λ (x : List ℕ). get_or x port 0) (sym (shown_is runners i d here)
+          ∙ shown_of runners c.args.runners.now i v.shown) ∙ run.shown i port in
+          turn (had net models Run holds) runners i d new here
+          (c.run.ensures.state (inputs_at net holds i) was ∙ ap (λ (m : Machine). happens count_log m Run
+          (inputs_at net holds i) (running_of (get_or runners i d)))
+          (sym (machine_is models i c.get.result.now model c.get.ensures))) ∙ v.state net holds run;
     }
 
 pub returns-clause-state : goal.returns-clause-state
 returns-clause-state c net holds run =
-    sym (all_done (had net c.args.models.now.items Run holds) c.loop-i.runners c.loop-i.i (omega (arith, c.loop-i-test.false, c.loop-i.invariant.count, c.requires.count)))
+    sym (all_done (had net c.args.models.now.items Run holds) c.loop-i.runners c.loop-i.i
+    (omega (arith, c.loop-i-test.false, c.loop-i.invariant.count, c.requires.count)))
     ∙ c.loop-i.invariant.state net holds run

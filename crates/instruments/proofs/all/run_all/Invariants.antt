@@ -11,5 +11,7 @@ abbrev pub invariant-loop-i : goal.invariant-loop-i
 invariant-loop-i l = record {
   count : length l.runners ≡ length l.models.items;
   shown : map (λ r. r.inputs) l.runners ≡ map (λ r. r.inputs) l.fn.runners;
-  state : (net : Net) (holds : Holds) → AreRunning net l.models.items holds l.fn.runners → Left (had net l.models.items Run holds) l.i l.runners ≡ Left (had net l.models.items Run holds) 0 l.fn.runners;
+  state : (net : Net) (holds : Holds) → AreRunning net l.models.items holds l.fn.runners
+      → Left (had net l.models.items Run holds) l.i l.runners
+      ≡ Left (had net l.models.items Run holds) 0 l.fn.runners;
 }

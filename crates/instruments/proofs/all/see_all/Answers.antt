@@ -14,10 +14,17 @@ loop-i-preserved c =
     let i = c.loop-i.i in
     let d = c.index-runners-i.result in
     let v = c.loop-i.invariant in
-    let new : Runner = record { machine = (get_or runners i d).machine; inputs = c.inputs_of.result; counts = (get_or runners i d).counts } in
+    let new : Runner = record {
+      machine =
+          (get_or runners i d).machine;
+      inputs = c.inputs_of.result;
+      counts = (get_or runners i d).counts;
+    } in
     let here : i < length runners = omega (arith, c.loop-i-test.true, v.count) in
     let inst : i < length net.insts.items = omega (arith, c.loop-i-test.true, c.requires.count) in
-    let stand : StandFor c.inputs_of.result (inputs_at net holds i) = λ port. c.inputs_of.ensures port ∙ ap (λ (x : List ℕ). get_or x port 0) (sym (inputs_are net holds i c.get.result.now inst c.get.ensures)) in
+    let stand : StandFor c.inputs_of.result (inputs_at net holds i) =
+    λ port. c.inputs_of.ensures port ∙ ap (λ (x : List ℕ). get_or x port 0)
+    (sym (inputs_are net holds i c.get.result.now inst c.get.ensures)) in
     record {
       count = length-set runners i new ∙ v.count;
       state = insts_kept runners i d c.inputs_of.result here ∙ v.state;

@@ -11,5 +11,7 @@ invariant-loop-i l = record {
   count : length l.runners ≡ length l.models.items;
   seen : (k : ℕ) → k < l.i → StandFor (shown_at l.runners k) (inputs_at l.net l.holds k);
   rest : (k : ℕ) → l.i ≤ k → shown_at l.runners k ≡ shown_at l.fn.runners k;
-  state : (before : Holds) → AreRunning l.net l.models.items before l.fn.runners → Left (changed l.net l.models.items before l.holds) l.i l.runners ≡ Left (changed l.net l.models.items before l.holds) 0 l.fn.runners;
+  state : (before : Holds) → AreRunning l.net l.models.items before l.fn.runners
+      → Left (changed l.net l.models.items before l.holds) l.i l.runners
+      ≡ Left (changed l.net l.models.items before l.holds) 0 l.fn.runners;
 }

@@ -11,11 +11,13 @@ use Rattle.least_clocks.proofs.bound.least.Given as goal
 
 abbrev pub invariant-loop-count : goal.invariant-loop-count
 invariant-loop-count l = record {
-  counts : in_all l.net l.tree l.device l.count (all_work l.steps.steps) ≡ least_clocks l.net l.tree l.device l.fn.steps.steps;
+  counts : in_all l.net l.tree l.device l.count (all_work l.steps.steps)
+      ≡ least_clocks l.net l.tree l.device l.fn.steps.steps;
   fault : l.steps.fault ≡ None;
   valid : All (IsStep l.net) l.steps.steps;
   holds : AreHolds l.net l.count.holds;
-  room : l.count.clocks + 2 ^ 47 * rounds_in l.steps.steps + 2 ^ 33 * length l.steps.steps ≤ 2 ^ 47 * 4096 + 2 ^ 33 * 100000;
+  room : l.count.clocks + 2 ^ 47 * rounds_in l.steps.steps + 2 ^ 33 * length l.steps.steps
+      ≤ 2 ^ 47 * 4096 + 2 ^ 33 * 100000;
 }
 
 abbrev pub decreases-loop-count : goal.decreases-loop-count

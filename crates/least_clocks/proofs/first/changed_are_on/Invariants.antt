@@ -7,5 +7,6 @@ use Rattle.least_clocks.proofs.first.changed_are_on.Given as goal
 
 abbrev pub invariant-loop-write : goal.invariant-loop-write
 invariant-loop-write l =
-    list_all (is_in l.path) (map (λ w. w.bit.reg) (filter (λ w. not (has_value l.holds w)) (drop l.write-index l.writes)))
+    list_all (is_in l.path)
+    (map (λ w. w.bit.reg) (filter (λ w. not (has_value l.holds w)) (drop l.write-index l.writes)))
     ≡ list_all (is_in l.path) (map (λ w. w.bit.reg) (filter (λ w. not (has_value l.holds w)) l.writes))

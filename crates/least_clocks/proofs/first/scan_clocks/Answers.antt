@@ -7,4 +7,5 @@ use Rattle.least_clocks.proofs.first.scan_clocks.Goals as goal
 pub bits_along-first-requires-clause-route : goal.bits_along-first-requires-clause-route
 bits_along-first-requires-clause-route c =
     let net = c.args.net.now in
-    subst (IsRoute (length net.regs.items)) (sym (c.as_slice.ensures ∙ c.in_ok-path.ensures)) (route_is net (start_holds net) c.requires.net)
+    subst (IsRoute (length net.regs.items)) (sym (c.as_slice.ensures ∙ c.in_ok-path.ensures))
+    (route_is net (start_holds net) c.requires.net)

@@ -7,4 +7,5 @@ use Rattle.least_clocks.proofs.inside.is_inside.Given as goal
 
 abbrev pub invariant-loop-row : goal.invariant-loop-row
 invariant-loop-row l =
-    list_all (is_one_of l.rows) (drop l.row-index (place_of l.tree (Reg l.reg))) ≡ list_all (is_one_of l.rows) (place_of l.tree (Reg l.reg))
+    list_all (is_one_of l.rows) (drop l.row-index (place_of l.tree (Reg l.reg)))
+    ≡ list_all (is_one_of l.rows) (place_of l.tree (Reg l.reg))

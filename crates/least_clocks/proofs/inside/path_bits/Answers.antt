@@ -4,4 +4,10 @@ use Rattle.least_clocks.proofs.inside.path_bits.Goals as goal
 
 pub returns-clause-few : goal.returns-clause-few
 returns-clause-few c =
-    omega (arith, reg_count c.args.net.now c.requires, c.register_count-reg-end.ensures, c.loop-reg.invariant.few, c.loop-reg.auto.reg-end)
+    omega (
+      arith,
+      reg_count c.args.net.now c.requires,
+      c.register_count-reg-end.ensures,
+      c.loop-reg.invariant.few,
+      c.loop-reg.auto.reg-end,
+    )

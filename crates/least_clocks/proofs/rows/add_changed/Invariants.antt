@@ -7,4 +7,6 @@ use Rattle.least_clocks.proofs.rows.add_changed.Given as goal
 
 abbrev pub invariant-loop-write : goal.invariant-loop-write
 invariant-loop-write l =
-    (b : Branch) → (is_one_of l.rows.items b || is_one_of (changed_rows l.tree l.holds (drop l.write-index l.writes)) b) ≡ (is_one_of l.fn.rows.items b || is_one_of (changed_rows l.tree l.holds l.writes) b)
+    (b : Branch) → (is_one_of l.rows.items b || is_one_of
+    (changed_rows l.tree l.holds (drop l.write-index l.writes)) b)
+    ≡ (is_one_of l.fn.rows.items b || is_one_of (changed_rows l.tree l.holds l.writes) b)

@@ -7,4 +7,5 @@ use Rattle.least_clocks.proofs.rows.add_read.Given as goal
 
 abbrev pub invariant-loop-read : goal.invariant-loop-read
 invariant-loop-read l =
-    (b : Branch) → (is_one_of l.rows.items b || is_one_of (read_rows l.tree (drop l.read-index l.reads)) b) ≡ (is_one_of l.fn.rows.items b || is_one_of (read_rows l.tree l.reads) b)
+    (b : Branch) → (is_one_of l.rows.items b || is_one_of (read_rows l.tree (drop l.read-index l.reads)) b)
+    ≡ (is_one_of l.fn.rows.items b || is_one_of (read_rows l.tree l.reads) b)

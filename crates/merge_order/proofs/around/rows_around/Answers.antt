@@ -14,5 +14,7 @@ returns c =
     let of_writes = λ (ws : List WriteBit). flat_map (λ w. places w.bit.reg) ws in
     let of_reads = λ (rs : List ReadBit). flat_map (λ r. places r.bit.reg) rs in
     rows_told c.new.result.items c.add_written.new.self.rows.items c.add_read.new.self.rows.items
-    (of_writes c.as_slice.result.now) (of_reads c.as_slice-2.result.now) (of_writes g.writes) (of_reads g.reads)
-    c.new.ensures c.in_ok-add_written.ensures.rows c.in_ok-add_read.ensures.rows (ap of_writes c.as_slice.ensures) (ap of_reads c.as_slice-2.ensures)
+    (of_writes c.as_slice.result.now) (of_reads c.as_slice-2.result.now)
+    (of_writes g.writes) (of_reads g.reads)
+    c.new.ensures c.in_ok-add_written.ensures.rows c.in_ok-add_read.ensures.rows
+    (ap of_writes c.as_slice.ensures) (ap of_reads c.as_slice-2.ensures)

@@ -12,6 +12,8 @@ loop-rounds-init c =
     let places = places_in c.args.tree.now in
     let none = ap seen_joins c.new-joins.ensures.items in
     record {
-      joins = ap (λ js. put_all places js (seen_applies c.args.applies.now)) none ∙ put_is places (seen_applies c.args.applies.now);
-      tells = subst (λ (js : List (List SeenGroup)). Tells places c.clear.new.self js) (sym none) (c.clear.ensures places);
+      joins = ap (λ js. put_all places js (seen_applies c.args.applies.now)) none
+          ∙ put_is places (seen_applies c.args.applies.now);
+      tells = subst (λ (js : List (List SeenGroup)). Tells places c.clear.new.self js)
+          (sym none) (c.clear.ensures places);
     }

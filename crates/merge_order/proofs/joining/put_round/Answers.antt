@@ -16,16 +16,22 @@ returns c =
     let h = seen_group c.args.round.now in
     let place = c.first_join-place.result in
     let len = length-map c.args.joins.now.items (λ j. seen_groups j.items) in
-    let count : c.in_ok-count.count ≡ length joins = c.in_ok-count.ensures ∙ ap length c.deref.ensures.value ∙ sym len in
-    let seen = same_as c.as_slice.result.now c.in_ok-around.around.items _ c.as_slice.ensures c.in_ok-around.ensures in
-    let again = same_as c.as_slice-2.result.now c.in_ok-around.around.items _ c.as_slice-2.ensures c.in_ok-around.ensures in
+    let count : c.in_ok-count.count ≡ length joins =
+    c.in_ok-count.ensures ∙ ap length c.deref.ensures.value ∙ sym len in
+    let seen = same_as c.as_slice.result.now c.in_ok-around.around.items _
+    c.as_slice.ensures c.in_ok-around.ensures in
+    let again = same_as c.as_slice-2.result.now c.in_ok-around.around.items _
+    c.as_slice-2.ensures c.in_ok-around.ensures in
     let at_most : place ≤ length joins = omega (arith, c.first_join-place.ensures.at_most, count) in
-    let at = λ (below : place < length joins). c.first_join-place.ensures.at places joins seen c.requires (omega (arith, below, count)) in
+    let at = λ (below : place < length joins). c.first_join-place.ensures.at places joins seen c.requires
+    (omega (arith, below, count)) in
     let open_join = open_there places h joins place at_most at in
-    let there = put_there places h joins place at_most (c.first_join-place.ensures.before places joins seen c.requires) at in
+    let there = put_there places h joins place at_most
+    (c.first_join-place.ensures.before places joins seen c.requires) at in
     let fits : place ≤ length c.args.joins.now.items = omega (arith, at_most, len) in
     let put = c.in_ok-put_at.ensures fits open_join in
     record {
       joins = put ∙ there;
-      tells = subst (λ (js : List (List SeenGroup)). Tells places c.add.new.self js) (sym put) (c.in_ok-add.ensures places joins again c.requires at_most open_join);
+      tells = subst (λ (js : List (List SeenGroup)). Tells places c.add.new.self js) (sym put)
+          (c.in_ok-add.ensures places joins again c.requires at_most open_join);
     }

@@ -1,4 +1,5 @@
-use Rattle.merge_order.proofs.Fewer.{merged_steps_are_few, merged_rounds_are_few, merged_cycles_are_few, merged_runs_are_short}
+use Rattle.merge_order.proofs.Fewer.{merged_steps_are_few, merged_rounds_are_few, merged_cycles_are_few}
+use Rattle.merge_order.proofs.Fewer.{merged_runs_are_short}
 use Rattle.merge_order.proofs.laws.merges_are_few.Goals as goal
 
 pub returns-clause-steps : goal.returns-clause-steps

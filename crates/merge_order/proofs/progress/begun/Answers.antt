@@ -14,11 +14,23 @@ pub returns-in_err-steps-clause-refused : goal.returns-in_err-steps-clause-refus
 unfolding bit_steps
 returns-in_err-steps-clause-refused c =
     let p = err_from_is_err_and c.from_residual.result c.from_residual.ensures.1 in
-    let left = left_in (expansion (map seen_proc c.args.procs.now) (cells_of c.args.net.now) c.args.name.now) in
-    rw (p.1, p.2) (refused_left (record { net = c.args.net.now; form = c.args.tree.now; state = begin; ready = [] }) refl left _ c.in_err-steps.ensures.refused)
+    let left =
+    left_in (expansion (map seen_proc c.args.procs.now) (cells_of c.args.net.now) c.args.name.now) in
+    rw (p.1, p.2) (refused_left (record {
+      net = c.args.net.now;
+      form = c.args.tree.now;
+      state = begin;
+      ready =
+          [];
+    }) refl left _ c.in_err-steps.ensures.refused)
 
 pub returns-clause-under_way : goal.returns-clause-under_way
-returns-clause-under_way c = record { few = begins_few c.in_ok-steps.steps c.new-2.result (map seen_proc c.args.procs.now) c.args.net.now c.args.tree.now c.args.name.now c.in_ok-steps.ensures.given c.new-2.ensures }
+returns-clause-under_way c =
+    record {
+      few = begins_few c.in_ok-steps.steps c.new-2.result (map seen_proc c.args.procs.now)
+          c.args.net.now c.args.tree.now c.args.name.now c.in_ok-steps.ensures.given c.new-2.ensures;
+    }
 
 pub returns-clause-given : goal.returns-clause-given
-returns-clause-given c = begins c.in_ok-steps.steps c.new-2.result (map seen_proc c.args.procs.now) c.args.net.now c.args.tree.now c.args.name.now c.in_ok-steps.ensures.given c.new-2.ensures
+returns-clause-given c = begins c.in_ok-steps.steps c.new-2.result (map seen_proc c.args.procs.now)
+    c.args.net.now c.args.tree.now c.args.name.now c.in_ok-steps.ensures.given c.new-2.ensures

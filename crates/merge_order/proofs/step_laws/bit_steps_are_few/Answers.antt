@@ -1,4 +1,5 @@
-use Rattle.merge_order.proofs.StepWhole.{bits_are_few, bit_rounds_are_few, bit_cycles_are_few, bit_runs_are_short}
+use Rattle.merge_order.proofs.StepWhole.{bits_are_few, bit_rounds_are_few, bit_cycles_are_few}
+use Rattle.merge_order.proofs.StepWhole.{bit_runs_are_short}
 use Rattle.merge_order.proofs.step_laws.bit_steps_are_few.Goals as goal
 
 pub returns-clause-steps : goal.returns-clause-steps

@@ -13,52 +13,75 @@ pub returns-in_err-scan-clause-part : goal.returns-in_err-scan-clause-part
 returns-in_err-scan-clause-part g c =
     let files = g.S.Shelf.files c.loop-piece.shelf in
     at_refusal _
-    (is_part c.args.net.now c.args.test.now.scans (with_piece (g.S.Shelf.files c.args.shelf.now) c.args.name.now c.args.piece) c.args.name.now c.loop-piece.test.scans files c.loop-piece.piece c.loop-piece.invariant.go files
+    (is_part c.args.net.now c.args.test.now.scans
+    (with_piece (g.S.Shelf.files c.args.shelf.now) c.args.name.now c.args.piece) c.args.name.now
+    c.loop-piece.test.scans files c.loop-piece.piece c.loop-piece.invariant.go files
     (front_stays files c.args.name.now c.loop-piece.piece c.loop-piece.invariant.there))
 
 pub put_scan-requires-clause-can : goal.put_scan-requires-clause-can
 put_scan-requires-clause-can g c =
-    let given = subst (λ o. MatchOption o (c.loop-piece.test.scans ≡ []) (λ t. c.loop-piece.test.scans ≡ seen_test_scan t ∷ c.next.new.self.scans)) c.in-Some.is c.in_ok-scan.ensures.gives in
-    first_can c.args.net.now c.loop-piece.test.scans (seen_test_scan c.in-Some.scan) c.next.new.self.scans given c.loop-piece.invariant.can
+    let given = subst (λ o. MatchOption o (c.loop-piece.test.scans ≡ []) (λ t. c.loop-piece.test.scans
+    ≡ seen_test_scan t ∷ c.next.new.self.scans)) c.in-Some.is c.in_ok-scan.ensures.gives in
+    first_can c.args.net.now c.loop-piece.test.scans
+    (seen_test_scan c.in-Some.scan) c.next.new.self.scans given c.loop-piece.invariant.can
 
 pub returns-in_err-put_scan-clause-part : goal.returns-in_err-put_scan-clause-part
 returns-in_err-put_scan-clause-part g c =
     let files = g.S.Shelf.files c.loop-piece.shelf in
     at_refusal _
-    (is_part c.args.net.now c.args.test.now.scans (with_piece (g.S.Shelf.files c.args.shelf.now) c.args.name.now c.args.piece) c.args.name.now c.loop-piece.test.scans files c.loop-piece.piece c.loop-piece.invariant.go files
+    (is_part c.args.net.now c.args.test.now.scans
+    (with_piece (g.S.Shelf.files c.args.shelf.now) c.args.name.now c.args.piece) c.args.name.now
+    c.loop-piece.test.scans files c.loop-piece.piece c.loop-piece.invariant.go files
     (front_stays files c.args.name.now c.loop-piece.piece c.loop-piece.invariant.there))
 
 pub returns-in_err-piece-clause-part : goal.returns-in_err-piece-clause-part
 returns-in_err-piece-clause-part g c =
     let files = g.S.Shelf.files c.loop-piece.shelf in
     let old = with_piece (g.S.Shelf.files c.args.shelf.now) c.args.name.now c.args.piece in
-    let given = subst (λ o. MatchOption o (c.loop-piece.test.scans ≡ []) (λ t. c.loop-piece.test.scans ≡ seen_test_scan t ∷ c.next.new.self.scans)) c.in-Some.is c.in_ok-scan.ensures.gives in
+    let given = subst (λ o. MatchOption o (c.loop-piece.test.scans ≡ []) (λ t. c.loop-piece.test.scans
+    ≡ seen_test_scan t ∷ c.next.new.self.scans)) c.in-Some.is c.in_ok-scan.ensures.gives in
     let go =
-    one_more c.args.net.now c.args.test.now.scans old c.args.name.now c.loop-piece.test.scans files c.loop-piece.piece c.loop-piece.invariant.go
-    (seen_test_scan c.in-Some.scan) c.next.new.self.scans c.put_scan.new.k c.put_scan.new.k files given c.in_ok-put_scan.ensures.whole refl in
+    one_more c.args.net.now c.args.test.now.scans old c.args.name.now c.loop-piece.test.scans files
+    c.loop-piece.piece c.loop-piece.invariant.go
+    (seen_test_scan c.in-Some.scan) c.next.new.self.scans c.put_scan.new.k c.put_scan.new.k files
+    given c.in_ok-put_scan.ensures.whole refl in
     at_refusal _
-    (is_part c.args.net.now c.args.test.now.scans old c.args.name.now c.next.new.self.scans files c.put_scan.new.k go (g.S.Shelf.files c.next_piece.new.shelf) c.in_err-piece.ensures.part)
+    (is_part c.args.net.now c.args.test.now.scans old c.args.name.now c.next.new.self.scans files
+    c.put_scan.new.k go (g.S.Shelf.files c.next_piece.new.shelf) c.in_err-piece.ensures.part)
 
 pub loop-piece-preserved : goal.loop-piece-preserved
 loop-piece-preserved g c =
-    let given = subst (λ o. MatchOption o (c.loop-piece.test.scans ≡ []) (λ t. c.loop-piece.test.scans ≡ seen_test_scan t ∷ c.next.new.self.scans)) c.in-Some.is c.in_ok-scan.ensures.gives in
+    let given = subst (λ o. MatchOption o (c.loop-piece.test.scans ≡ []) (λ t. c.loop-piece.test.scans
+    ≡ seen_test_scan t ∷ c.next.new.self.scans)) c.in-Some.is c.in_ok-scan.ensures.gives in
     record {
       go =
-          one_more c.args.net.now c.args.test.now.scans (with_piece (g.S.Shelf.files c.args.shelf.now) c.args.name.now c.args.piece) c.args.name.now c.loop-piece.test.scans (g.S.Shelf.files c.loop-piece.shelf) c.loop-piece.piece c.loop-piece.invariant.go
-          (seen_test_scan c.in-Some.scan) c.next.new.self.scans c.put_scan.new.k c.in_ok-piece.piece (g.S.Shelf.files c.next_piece.new.shelf) given c.in_ok-put_scan.ensures.whole c.in_ok-piece.ensures.whole;
+          one_more c.args.net.now c.args.test.now.scans (with_piece (g.S.Shelf.files c.args.shelf.now)
+          c.args.name.now c.args.piece) c.args.name.now c.loop-piece.test.scans
+          (g.S.Shelf.files c.loop-piece.shelf) c.loop-piece.piece c.loop-piece.invariant.go
+          (seen_test_scan c.in-Some.scan) c.next.new.self.scans c.put_scan.new.k c.in_ok-piece.piece
+          (g.S.Shelf.files c.next_piece.new.shelf) given
+          c.in_ok-put_scan.ensures.whole c.in_ok-piece.ensures.whole;
       there = c.in_ok-piece.ensures.there;
-      can = later_can c.args.net.now c.loop-piece.test.scans (seen_test_scan c.in-Some.scan) c.next.new.self.scans given c.loop-piece.invariant.can;
+      can = later_can c.args.net.now c.loop-piece.test.scans
+          (seen_test_scan c.in-Some.scan) c.next.new.self.scans given c.loop-piece.invariant.can;
       others = λ other n. c.next_piece.ensures.others other n ∙ c.loop-piece.invariant.others other n;
-      later = one_later c.args.name.now (g.S.Shelf.store_faults c.args.shelf.now) (g.S.Shelf.store_faults c.loop-piece.shelf) (g.S.Shelf.store_faults c.next_piece.new.shelf) _ _ c.loop-piece.invariant.later c.next_piece.ensures.cause;
+      later = one_later c.args.name.now (g.S.Shelf.store_faults c.args.shelf.now)
+          (g.S.Shelf.store_faults c.loop-piece.shelf) (g.S.Shelf.store_faults c.next_piece.new.shelf) _ _
+          c.loop-piece.invariant.later c.next_piece.ensures.cause;
       loads = λ name. c.next_piece.ensures.loads name ∙ c.loop-piece.invariant.loads name;
       unseen = ap (λ (t : SeenTest). t.unseen) c.in_ok-scan.ensures.others ∙ c.loop-piece.invariant.unseen;
-      scan_count = ap (λ (t : SeenTest). t.scan_count) c.in_ok-scan.ensures.others ∙ c.loop-piece.invariant.scan_count;
-      row_count = ap (λ (t : SeenTest). t.row_count) c.in_ok-scan.ensures.others ∙ c.loop-piece.invariant.row_count;
+      scan_count = ap (λ (t : SeenTest). t.scan_count) c.in_ok-scan.ensures.others
+          ∙ c.loop-piece.invariant.scan_count;
+      row_count = ap (λ (t : SeenTest). t.row_count) c.in_ok-scan.ensures.others
+          ∙ c.loop-piece.invariant.row_count;
     }
 
 pub returns-clause-part : goal.returns-clause-part
 returns-clause-part g c =
     let files = g.S.Shelf.files c.loop-piece.shelf in
     on_err_weaker c.put_last_piece.result
-    (λ h. is_part c.args.net.now c.args.test.now.scans (with_piece (g.S.Shelf.files c.args.shelf.now) c.args.name.now c.args.piece) c.args.name.now c.loop-piece.test.scans files c.loop-piece.piece c.loop-piece.invariant.go
-    (g.S.Shelf.files c.put_last_piece.new.shelf) (h c.loop-piece.invariant.there)) c.put_last_piece.ensures.part
+    (λ h. is_part c.args.net.now c.args.test.now.scans
+    (with_piece (g.S.Shelf.files c.args.shelf.now) c.args.name.now c.args.piece) c.args.name.now
+    c.loop-piece.test.scans files c.loop-piece.piece c.loop-piece.invariant.go
+    (g.S.Shelf.files c.put_last_piece.new.shelf) (h c.loop-piece.invariant.there))
+    c.put_last_piece.ensures.part

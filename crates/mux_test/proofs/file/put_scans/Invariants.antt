@@ -12,7 +12,8 @@ use Rattle.mux_test.proofs.file.put_scans.Given as goal
 abbrev pub invariant-loop-piece : goal.invariant-loop-piece
 invariant-loop-piece g l =
     record {
-      go : Go l.fn.net l.fn.test.scans (with_piece (g.S.Shelf.files l.fn.shelf) l.fn.name l.fn.piece) l.test.scans (with_piece (g.S.Shelf.files l.shelf) l.fn.name l.piece);
+      go : Go l.fn.net l.fn.test.scans (with_piece (g.S.Shelf.files l.fn.shelf) l.fn.name l.fn.piece)
+          l.test.scans (with_piece (g.S.Shelf.files l.shelf) l.fn.name l.piece);
       there : IsThere (g.S.Shelf.files l.shelf) l.fn.name;
       can : All (CanWrite l.fn.net) l.test.scans;
       others : OthersStay (g.S.Shelf.files l.fn.shelf) (g.S.Shelf.files l.shelf) l.fn.name;

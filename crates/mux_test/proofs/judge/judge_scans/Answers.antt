@@ -11,17 +11,26 @@ loop-scan-preserved c =
     let i = c.loop-scan.scan-index in
     let h = c.loop-scan.holds in
     record {
-      can = next_can net c.args.scans.now i c.scan-item.result c.loop-scan-test.true c.scan-item.is h c.advance.new.holds c.advance.ensures c.loop-scan.invariant.can;
-      judged = next_judged net c.args.scans.now i c.scan-item.result c.loop-scan-test.true c.scan-item.is h c.advance.new.holds c.advance.ensures c.loop-scan.rows.items c.judge_changed.new.rows.items _ c.judge_changed.ensures.rows c.loop-scan.invariant.judged;
-      there = all_judged net h c.loop-scan.rows.items c.judge_changed.new.rows.items c.judge_changed.ensures.rows c.loop-scan.invariant.there;
-      alike = λ same. next_alike net h c.advance.new.holds c.scan-item.result.plan.writes.items c.loop-scan.rows.items c.judge_changed.new.rows.items c.advance.ensures (c.is_empty-changed.ensures.0 (was_empty c.is_empty-changed.result same)) c.judge_changed.ensures.rows;
+      can = next_can net c.args.scans.now i c.scan-item.result c.loop-scan-test.true c.scan-item.is h
+          c.advance.new.holds c.advance.ensures c.loop-scan.invariant.can;
+      judged = next_judged net c.args.scans.now i c.scan-item.result c.loop-scan-test.true c.scan-item.is h
+          c.advance.new.holds c.advance.ensures c.loop-scan.rows.items c.judge_changed.new.rows.items _
+          c.judge_changed.ensures.rows c.loop-scan.invariant.judged;
+      there = all_judged net h c.loop-scan.rows.items c.judge_changed.new.rows.items
+          c.judge_changed.ensures.rows c.loop-scan.invariant.there;
+      alike = λ same. next_alike net h c.advance.new.holds c.scan-item.result.plan.writes.items
+          c.loop-scan.rows.items c.judge_changed.new.rows.items c.advance.ensures
+          (c.is_empty-changed.ensures.0 (was_empty c.is_empty-changed.result same))
+          c.judge_changed.ensures.rows;
       room = c.judge_changed.ensures.room;
     }
 
 pub advance-requires : goal.advance-requires
 advance-requires c =
-    writes_held c.args.net.now c.args.scans.now c.loop-scan.scan-index c.scan-item.result c.loop-scan-test.true c.scan-item.is c.loop-scan.holds c.loop-scan.invariant.can
+    writes_held c.args.net.now c.args.scans.now c.loop-scan.scan-index c.scan-item.result
+    c.loop-scan-test.true c.scan-item.is c.loop-scan.holds c.loop-scan.invariant.can
 
 pub judge_changed-requires-clause-scannable : goal.judge_changed-requires-clause-scannable
 judge_changed-requires-clause-scannable c =
-    flushable_now c.args.net.now c.loop-scan.holds (map seen_planned (drop c.loop-scan.scan-index c.args.scans.now)) c.loop-scan.invariant.can
+    flushable_now c.args.net.now c.loop-scan.holds
+    (map seen_planned (drop c.loop-scan.scan-index c.args.scans.now)) c.loop-scan.invariant.can

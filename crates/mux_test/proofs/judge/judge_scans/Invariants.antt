@@ -14,7 +14,9 @@ invariant-loop-scan l =
     let left = map seen_planned (drop l.scan-index l.scans) in
     record {
       can : AreFlushable l.net l.holds left;
-      judged : judged_rows l.net (begins l.holds (holds_after l.holds left)) l.rows.items ≡ judged_rows l.net (begins (start_holds l.net) (holds_after (start_holds l.net) (map seen_planned l.scans))) l.fn.rows.items;
+      judged : judged_rows l.net (begins l.holds (holds_after l.holds left)) l.rows.items
+          ≡ judged_rows l.net (begins (start_holds l.net)
+          (holds_after (start_holds l.net) (map seen_planned l.scans))) l.fn.rows.items;
       there : All (λ r. IsBranchOf l.net r.branch) l.rows.items;
       alike : IsFalse l.changed → map (judged_row l.net l.holds) l.rows.items ≡ l.rows.items;
       room : HasJudgeRoom l.net l.judge;

@@ -10,10 +10,13 @@ use Rattle.mux_test.proofs.judge.unseen_rows.Goals as goal
 
 pub judge_scans-requires-clause-rows : goal.judge_scans-requires-clause-rows
 judge_scans-requires-clause-rows c =
-    all_open c.args.net.now c.args.branches.now c.in_ok-rows.rows.items c.in_ok-rows.ensures c.requires.branches
+    all_open c.args.net.now c.args.branches.now c.in_ok-rows.rows.items
+    c.in_ok-rows.ensures c.requires.branches
 
 pub returns : goal.returns
 returns c =
     let net = c.args.net.now in
     let hs = begins (start_holds net) (holds_after (start_holds net) (map seen_planned c.args.scans.now)) in
-    subst (λ (z : List Branch). IfOk c.untold_rows.result (λ l. l.items ≡ z)) (ap untold_rows (c.as_slice.ensures ∙ c.in_ok-judge_scans.ensures ∙ ap (judged_rows net hs) c.in_ok-rows.ensures) ∙ judged_is net c.args.branches.now hs) c.untold_rows.ensures
+    subst (λ (z : List Branch). IfOk c.untold_rows.result (λ l. l.items ≡ z)) (ap untold_rows
+    (c.as_slice.ensures ∙ c.in_ok-judge_scans.ensures ∙ ap (judged_rows net hs) c.in_ok-rows.ensures)
+    ∙ judged_is net c.args.branches.now hs) c.untold_rows.ensures

@@ -5,4 +5,10 @@ use Rattle.mux_test.proofs.law.mux_tests_law.Goals as goal
 
 pub returns : goal.returns
 returns c =
-    record { quiet = tests_are_quiet; found = stuck_are_found; reached = rows_are_reached; text = scans_make_the_text; read_again = tests_are_read_again }
+    record {
+      quiet = tests_are_quiet;
+      found = stuck_are_found;
+      reached = rows_are_reached;
+      text = scans_make_the_text;
+      read_again = tests_are_read_again;
+    }

@@ -1,4 +1,5 @@
--- The scans so far lead, with the rows that are left, to the whole test; and the route is that of what is held.
+-- The scans so far lead, with the rows that are left, to the whole test; and the route is that of what is
+-- held.
 use Rattle.std.proofs.Common.{◌≡◌, ◌≤◌, Some, drop, length}
 use Rattle.std.specs.Prelude.{map}
 use Rattle.net_graph.specs.Path as paths

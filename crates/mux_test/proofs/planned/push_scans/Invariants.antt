@@ -7,7 +7,8 @@ use Rattle.mux_test.proofs.planned.push_scans.Given as goal
 
 abbrev pub invariant-plans : goal.invariant-plans
 invariant-plans l =
-    map seen_planned l.scans.items ++ row_planned l.branch l.first (map seen_plan (reverse l.left.items)) ≡ map seen_planned l.fn.scans.items ++ row_planned l.branch true (map seen_plan l.fn.plans.items)
+    map seen_planned l.scans.items ++ row_planned l.branch l.first (map seen_plan (reverse l.left.items))
+    ≡ map seen_planned l.fn.scans.items ++ row_planned l.branch true (map seen_plan l.fn.plans.items)
 
 abbrev pub decreases-plans : goal.decreases-plans
 decreases-plans l = vec_len l.left

@@ -6,6 +6,7 @@ use Rattle.mux_test.proofs.report.put_all_unseen.Given as goal
 
 abbrev pub invariant-loop-row : goal.invariant-loop-row
 invariant-loop-row g l = record {
-  so_far : Adds (g.K.Sink.taken l.fn.k) (g.K.Sink.taken l.k) (flat_map (unseen_line l.net) (take l.row-index l.unseen));
+  so_far : Adds (g.K.Sink.taken l.fn.k) (g.K.Sink.taken l.k)
+      (flat_map (unseen_line l.net) (take l.row-index l.unseen));
   later : g.K.Sink.faults l.fn.k ≤ g.K.Sink.faults l.k;
 }

@@ -2,7 +2,8 @@ use Rattle.ij_io.proofs.Adding.{adds_both, adds_front, adds_then_part, at_refusa
 use Rattle.mux_test.proofs.report.put_unseen.Goals as goal
 
 pub returns-in_err-write-clause-part : goal.returns-in_err-write-clause-part
-returns-in_err-write-clause-part g c = at_refusal c.from_residual.result (adds_front _ c.in_err-write.ensures.part)
+returns-in_err-write-clause-part g c =
+    at_refusal c.from_residual.result (adds_front _ c.in_err-write.ensures.part)
 
 pub returns-in_err-put_mux_path-clause-part : goal.returns-in_err-put_mux_path-clause-part
 returns-in_err-put_mux_path-clause-part g c =
@@ -12,8 +13,10 @@ returns-in_err-put_mux_path-clause-part g c =
 pub returns-in_err-put_row-clause-part : goal.returns-in_err-put_row-clause-part
 returns-in_err-put_row-clause-part g c =
     at_refusal c.from_residual-in_err-put_row.result
-    (adds_then_part c.in_ok-write.ensures.whole (adds_then_part c.in_ok-put_mux_path.ensures.whole c.in_err-put_row.ensures.part))
+    (adds_then_part c.in_ok-write.ensures.whole
+    (adds_then_part c.in_ok-put_mux_path.ensures.whole c.in_err-put_row.ensures.part))
 
 pub returns-clause-whole : goal.returns-clause-whole
 returns-clause-whole g c =
-    adds_both c.in_ok-write.ensures.whole (adds_both c.in_ok-put_mux_path.ensures.whole c.in_ok-put_row.ensures.whole)
+    adds_both c.in_ok-write.ensures.whole
+    (adds_both c.in_ok-put_mux_path.ensures.whole c.in_ok-put_row.ensures.whole)

@@ -9,5 +9,6 @@ invariant-loop-turn l =
       there : IsPointOf l.net l.at;
       few : length l.path.items ≤ length l.net.regs.items;
       room : length l.path.items + l.path.spare ≡ length l.fn.path.items + l.fn.path.spare;
-      traced : IsTraced l.net l.stuck l.holds (length l.net.regs.items + length l.net.muxes.items - l._turn) l.at l.path.items;
+      traced : IsTraced l.net l.stuck l.holds
+          (length l.net.regs.items + length l.net.muxes.items - l._turn) l.at l.path.items;
     }

@@ -13,7 +13,8 @@ returns-in-Whole-clause-found c _ =
     let all = length (sources net) + length net.muxes.items in
     let i = c.loop-turn._turn in
     let turn : i < all = omega (arith, c.loop-turn-test.true, c.requires.turns) in
-    let whole : step net (seen c.loop-turn.nester) ≡ Whole (seen c.step.new.self).marks = subst (λ t. IsTurn (step net (seen c.loop-turn.nester)) t (seen c.step.new.self)) c.in-Whole.is c.in_ok-step.ensures in
+    let whole : step net (seen c.loop-turn.nester) ≡ Whole (seen c.step.new.self).marks = subst (λ t. IsTurn
+    (step net (seen c.loop-turn.nester)) t (seen c.step.new.self)) c.in-Whole.is c.in_ok-step.ensures in
     sym c.loop-turn.invariant.1
     ∙ ap (λ k. run net k (seen c.loop-turn.nester)) (one_less all i turn)
     ∙ run_whole net (all - (i + 1)) (seen c.loop-turn.nester) (seen c.step.new.self).marks whole
@@ -25,7 +26,8 @@ returns-in-Stuck-clause-none c _ =
     let all = length (sources net) + length net.muxes.items in
     let i = c.loop-turn._turn in
     let turn : i < all = omega (arith, c.loop-turn-test.true, c.requires.turns) in
-    let stuck : step net (seen c.loop-turn.nester) ≡ Stuck = subst (λ t. IsTurn (step net (seen c.loop-turn.nester)) t (seen c.step.new.self)) c.in-Stuck.is c.in_ok-step.ensures in
+    let stuck : step net (seen c.loop-turn.nester) ≡ Stuck = subst (λ t. IsTurn
+    (step net (seen c.loop-turn.nester)) t (seen c.step.new.self)) c.in-Stuck.is c.in_ok-step.ensures in
     sym c.loop-turn.invariant.1
     ∙ ap (λ k. run net k (seen c.loop-turn.nester)) (one_less all i turn)
     ∙ run_stuck net (all - (i + 1)) (seen c.loop-turn.nester) stuck
@@ -36,5 +38,11 @@ loop-turn-preserved c =
     let all = length (sources net) + length net.muxes.items in
     let i = c.loop-turn._turn in
     let turn : i < all = omega (arith, c.loop-turn-test.true, c.requires.turns) in
-    let more : step net (seen c.loop-turn.nester) ≡ More (seen c.step.new.self) = subst (λ t. IsTurn (step net (seen c.loop-turn.nester)) t (seen c.step.new.self)) c.in-More.is c.in_ok-step.ensures in
-    (goes_on_within net c.requires.well_formed (i + 1) (seen c.loop-turn.nester) (seen c.step.new.self) c.loop-turn.invariant.0 more, sym (run_more net (all - (i + 1)) (seen c.loop-turn.nester) (seen c.step.new.self) more) ∙ ap (λ k. run net k (seen c.loop-turn.nester)) (sym (one_less all i turn)) ∙ c.loop-turn.invariant.1)
+    let more : step net (seen c.loop-turn.nester) ≡ More (seen c.step.new.self) = subst (λ t. IsTurn
+    (step net (seen c.loop-turn.nester)) t (seen c.step.new.self)) c.in-More.is c.in_ok-step.ensures in (
+      goes_on_within net c.requires.well_formed (i + 1) (seen c.loop-turn.nester)
+          (seen c.step.new.self) c.loop-turn.invariant.0 more,
+      sym (run_more net (all - (i + 1)) (seen c.loop-turn.nester) (seen c.step.new.self) more)
+          ∙ ap (λ k. run net k (seen c.loop-turn.nester))
+          (sym (one_less all i turn)) ∙ c.loop-turn.invariant.1,
+    )

@@ -6,5 +6,7 @@ use Rattle.nest_check.proofs.tables.tables_of.Goals as goal
 pub loop-i-init : goal.loop-i-init
 unfolding nothing_named
 loop-i-init c =
-    let met : c.in_ok-tables.tables.met.items ≡ [] = ap (λ t. t.met) c.in_ok-tables.ensures in
-    (subst (All (λ a. a.level.begun ≤ 0)) (sym met) (λ k d h. absurd (omega (arith, h))), ap (λ t. pass t c.args.marks.now) c.in_ok-tables.ensures)
+    let met : c.in_ok-tables.tables.met.items ≡ [] = ap (λ t. t.met) c.in_ok-tables.ensures in (
+      subst (All (λ a. a.level.begun ≤ 0)) (sym met) (λ k d h. absurd (omega (arith, h))),
+      ap (λ t. pass t c.args.marks.now) c.in_ok-tables.ensures,
+    )

@@ -8,4 +8,5 @@ use Rattle.nest_check.proofs.uses.drivers.Given as goal
 abbrev pub invariant-loop-inst : goal.invariant-loop-inst
 invariant-loop-inst l =
     AreHolds l.net l.flags
-    × (driving_all l.flags (flat_map inputs_of (drop l.inst-index l.inst-items)) ≡ driving_all (zero_holds l.net) (inputs l.net))
+    × (driving_all l.flags (flat_map inputs_of (drop l.inst-index l.inst-items))
+    ≡ driving_all (zero_holds l.net) (inputs l.net))

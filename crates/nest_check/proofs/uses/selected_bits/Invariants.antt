@@ -7,4 +7,5 @@ use Rattle.nest_check.proofs.uses.selected_bits.Given as goal
 abbrev pub invariant-loop-mux : goal.invariant-loop-mux
 invariant-loop-mux l =
     HaveFlags l.net (selected_of l.selecting)
-    × (note_all (selected_of l.selecting) (flat_map (λ mux. mux.select.items) (drop l.mux-index l.mux-items)) ≡ note_all (no_flags l.net) (select_bits l.net))
+    × (note_all (selected_of l.selecting) (flat_map (λ mux. mux.select.items) (drop l.mux-index l.mux-items))
+    ≡ note_all (no_flags l.net) (select_bits l.net))

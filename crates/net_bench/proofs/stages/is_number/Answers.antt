@@ -8,7 +8,8 @@ use Rattle.net_bench.proofs.stages.is_number.Goals as goal
 pub returns-then-get-rest : goal.returns-then-get-rest
 returns-then-get-rest c =
     let within : c.loop-i.i < length c.args.stage.now.items = omega arith in
-    let rest : Bool = bits_eq (drop (c.loop-i.i + 1) c.args.stage.now.items) (bits_of (length c.args.stage.now.items - (c.loop-i.i + 1)) (c.loop-i.rest / 2)) in
+    let rest : Bool = bits_eq (drop (c.loop-i.i + 1) c.args.stage.now.items)
+    (bits_of (length c.args.stage.now.items - (c.loop-i.i + 1)) (c.loop-i.rest / 2)) in
     sym (ap (λ b. b && rest) (differ _ _ c.if-get-rest.true))
     ∙ ap (λ b. same_bit b ((c.loop-i.rest % 2) == 1) && rest) c.get.ensures
     ∙ sym (eq_step c.args.stage.now.items c.loop-i.i c.loop-i.rest within)
@@ -17,7 +18,8 @@ returns-then-get-rest c =
 pub loop-i-preserved : goal.loop-i-preserved
 loop-i-preserved c =
     let within : c.loop-i.i < length c.args.stage.now.items = omega arith in
-    let rest : Bool = bits_eq (drop (c.loop-i.i + 1) c.args.stage.now.items) (bits_of (length c.args.stage.now.items - (c.loop-i.i + 1)) (c.loop-i.rest / 2)) in
+    let rest : Bool = bits_eq (drop (c.loop-i.i + 1) c.args.stage.now.items)
+    (bits_of (length c.args.stage.now.items - (c.loop-i.i + 1)) (c.loop-i.rest / 2)) in
     sym (ap (λ b. b && rest) (agree _ _ c.if-get-rest.false))
     ∙ ap (λ b. same_bit b ((c.loop-i.rest % 2) == 1) && rest) c.get.ensures
     ∙ sym (eq_step c.args.stage.now.items c.loop-i.i c.loop-i.rest within)

@@ -4,4 +4,5 @@ use Rattle.net_bench.proofs.stages.put_number.Given as goal
 
 abbrev pub invariant-loop-i : goal.invariant-loop-i
 invariant-loop-i l =
-    (length l.stage.items ≡ length l.fn.stage.items) × (take l.i l.stage.items ++ bits_of (length l.fn.stage.items - l.i) l.rest ≡ bits_of (length l.fn.stage.items) l.n)
+    (length l.stage.items ≡ length l.fn.stage.items) × (take l.i l.stage.items
+    ++ bits_of (length l.fn.stage.items - l.i) l.rest ≡ bits_of (length l.fn.stage.items) l.n)

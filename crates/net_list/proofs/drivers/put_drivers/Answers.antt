@@ -14,9 +14,12 @@ returns-in_err-put_driver-clause-part g c =
     let p = length bits - 1 - c.loop-j.j in
     let more : n ≡ suc m = omega (arith, c.loop-j-test.true) in
     let place : p ≡ m = omega arith in
-    let here : drivers net bits n ≡ driver net bits p ++ drivers net bits m = drivers_next net bits n m p more place in
-    let front = subst (λ (rest : List ℕ). AddsFront (g.K.Sink.taken c.args.k.now) (g.K.Sink.taken c.loop-j.k) rest (drivers net bits (length bits))) here c.loop-j.invariant.front in
-    at_refusal c.from_residual.result (front_part (driver net bits p) (drivers net bits m) front c.in_err-put_driver.ensures.part)
+    let here : drivers net bits n ≡ driver net bits p ++ drivers net bits m =
+    drivers_next net bits n m p more place in
+    let front = subst (λ (rest : List ℕ). AddsFront (g.K.Sink.taken c.args.k.now)
+    (g.K.Sink.taken c.loop-j.k) rest (drivers net bits (length bits))) here c.loop-j.invariant.front in
+    at_refusal c.from_residual.result
+    (front_part (driver net bits p) (drivers net bits m) front c.in_err-put_driver.ensures.part)
 
 pub loop-j-preserved : goal.loop-j-preserved
 loop-j-preserved g c =
@@ -27,8 +30,10 @@ loop-j-preserved g c =
     let p = length bits - 1 - c.loop-j.j in
     let more : n ≡ suc m = omega (arith, c.loop-j-test.true) in
     let place : p ≡ m = omega arith in
-    let here : drivers net bits n ≡ driver net bits p ++ drivers net bits m = drivers_next net bits n m p more place in
-    let front = subst (λ (rest : List ℕ). AddsFront (g.K.Sink.taken c.args.k.now) (g.K.Sink.taken c.loop-j.k) rest (drivers net bits (length bits))) here c.loop-j.invariant.front in
+    let here : drivers net bits n ≡ driver net bits p ++ drivers net bits m =
+    drivers_next net bits n m p more place in
+    let front = subst (λ (rest : List ℕ). AddsFront (g.K.Sink.taken c.args.k.now)
+    (g.K.Sink.taken c.loop-j.k) rest (drivers net bits (length bits))) here c.loop-j.invariant.front in
     record {
       front = front_next (driver net bits p) (drivers net bits m) front c.in_ok-put_driver.ensures.whole;
       later = omega (arith, c.put_driver.ensures.cause.later);

@@ -5,10 +5,16 @@ use Rattle.net_list.specs.Drivers.{run_start}
 use Rattle.net_list.proofs.drivers.put_run.Goals as goal
 
 pub returns-in_err-write-clause-part : goal.returns-in_err-write-clause-part
-returns-in_err-write-clause-part g c = at_refusal c.from_residual.result (adds_part_as (ap (λ (t : List ℕ). t ++ run_start c.args.net.now c.args.signal) c.comma_unless.ensures) (adds_front _ c.in_err-write.ensures.part))
+returns-in_err-write-clause-part g c = at_refusal c.from_residual.result
+    (adds_part_as (ap (λ (t : List ℕ). t ++ run_start c.args.net.now c.args.signal) c.comma_unless.ensures)
+    (adds_front _ c.in_err-write.ensures.part))
 
 pub returns-in_err-put_run_start-clause-part : goal.returns-in_err-put_run_start-clause-part
-returns-in_err-put_run_start-clause-part g c = at_refusal c.from_residual-in_err-put_run_start.result (adds_part_as (ap (λ (t : List ℕ). t ++ run_start c.args.net.now c.args.signal) c.comma_unless.ensures) (adds_then_part c.in_ok-write.ensures.whole c.in_err-put_run_start.ensures.part))
+returns-in_err-put_run_start-clause-part g c = at_refusal c.from_residual-in_err-put_run_start.result
+    (adds_part_as (ap (λ (t : List ℕ). t ++ run_start c.args.net.now c.args.signal) c.comma_unless.ensures)
+    (adds_then_part c.in_ok-write.ensures.whole c.in_err-put_run_start.ensures.part))
 
 pub returns-clause-whole : goal.returns-clause-whole
-returns-clause-whole g c = adds_as (ap (λ (t : List ℕ). t ++ run_start c.args.net.now c.args.signal) c.comma_unless.ensures) (adds_both c.in_ok-write.ensures.whole c.in_ok-put_run_start.ensures.whole)
+returns-clause-whole g c =
+    adds_as (ap (λ (t : List ℕ). t ++ run_start c.args.net.now c.args.signal) c.comma_unless.ensures)
+    (adds_both c.in_ok-write.ensures.whole c.in_ok-put_run_start.ensures.whole)

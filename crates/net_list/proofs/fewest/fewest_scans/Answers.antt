@@ -9,8 +9,10 @@ plan_row-requires c =
     let place = c.args.place.now in
     let count : suc (length place - 1) ≡ length place = omega (arith, c.in-len1-up.len_at_least) in
     let below : length place - 1 < length place = omega (arith, c.in-len1-up.len_at_least) in
-    can_plan c.args.net.now c.args.tree.now c.args.reg _ c.args.start.now c.requires.well_formed c.requires.form c.requires.lawful c.requires.start
-    (innermost c.args.net.now c.args.tree.now c.args.reg _ place (length place - 1) c.requires.form c.requires.there c.requires.place count (get_or_default _ _ _ _ below))
+    can_plan c.args.net.now c.args.tree.now c.args.reg _ c.args.start.now c.requires.well_formed
+    c.requires.form c.requires.lawful c.requires.start
+    (innermost c.args.net.now c.args.tree.now c.args.reg _ place (length place - 1) c.requires.form
+    c.requires.there c.requires.place count (get_or_default _ _ _ _ below))
 
 pub returns-in_ok-plans-in-len1-up : goal.returns-in_ok-plans-in-len1-up
 returns-in_ok-plans-in-len1-up c =
@@ -18,8 +20,11 @@ returns-in_ok-plans-in-len1-up c =
     let count : suc (length place - 1) ≡ length place = omega (arith, c.in-len1-up.len_at_least) in
     let below : length place - 1 < length place = omega (arith, c.in-len1-up.len_at_least) in
     c.len.ensures
-    ∙ planned_scans c.args.net.now c.args.tree.now c.args.reg _ c.args.start.now c.in_ok-plans-in-len1-up.plans.items c.requires.start
-    (innermost c.args.net.now c.args.tree.now c.args.reg _ place (length place - 1) c.requires.form c.requires.there c.requires.place count (get_or_default _ _ _ _ below)) c.in_ok-plans-in-len1-up.ensures.planned
+    ∙ planned_scans c.args.net.now c.args.tree.now c.args.reg _ c.args.start.now
+    c.in_ok-plans-in-len1-up.plans.items c.requires.start
+    (innermost c.args.net.now c.args.tree.now c.args.reg _ place (length place - 1) c.requires.form
+    c.requires.there c.requires.place count (get_or_default _ _ _ _ below))
+    c.in_ok-plans-in-len1-up.ensures.planned
 
 pub scans_through-requires-clause-holds : goal.scans_through-requires-clause-holds
 scans_through-requires-clause-holds c = started_held c.args.net.now c.args.start.now c.requires.start
@@ -29,4 +34,5 @@ scans_through-requires-clause-there c =
     let place = c.args.place.now in
     let count : suc 0 ≡ length place = omega (arith, c.in-len1.len_at_least, c.in-len1.len_below) in
     let below : 0 < length place = omega (arith, c.in-len1.len_at_least) in
-    (innermost c.args.net.now c.args.tree.now c.args.reg _ place 0 c.requires.form c.requires.there c.requires.place count (get_or_default _ _ _ _ below)).there
+    (innermost c.args.net.now c.args.tree.now c.args.reg _ place 0 c.requires.form c.requires.there
+    c.requires.place count (get_or_default _ _ _ _ below)).there

@@ -7,16 +7,22 @@ use Rattle.net_list.proofs.instrument.put_inputs.Goals as goal
 pub returns-in_err-put_input-clause-part : goal.returns-in_err-put_input-clause-part
 returns-in_err-put_input-clause-part g c =
     at_refusal c.from_residual.result
-    (item_part (input_text c.args.format c.args.net.now) c.args.between.now c.args.ports.now c.loop-port.before.now c.loop-port.port-index c.loop-port-test.true c.port-item.is c.loop-port.invariant.front c.in_err-put_input.ensures.part)
+    (item_part (input_text c.args.format c.args.net.now) c.args.between.now c.args.ports.now
+    c.loop-port.before.now c.loop-port.port-index c.loop-port-test.true c.port-item.is
+    c.loop-port.invariant.front c.in_err-put_input.ensures.part)
 
 pub loop-port-preserved : goal.loop-port-preserved
 loop-port-preserved g c =
     let next : c.loop-port.port-index + 1 ≡ suc c.loop-port.port-index = omega arith in
     record {
-      front = item_next (input_text c.args.format c.args.net.now) c.args.between.now c.args.ports.now c.loop-port.before.now c.loop-port.port-index (c.loop-port.port-index + 1) c.loop-port-test.true c.port-item.is next c.loop-port.invariant.front c.in_ok-put_input.ensures.whole;
+      front = item_next (input_text c.args.format c.args.net.now) c.args.between.now c.args.ports.now
+          c.loop-port.before.now c.loop-port.port-index (c.loop-port.port-index + 1) c.loop-port-test.true
+          c.port-item.is next c.loop-port.invariant.front c.in_ok-put_input.ensures.whole;
       later = omega (arith, c.put_input.ensures.cause.later);
     }
 
 pub returns-clause-whole : goal.returns-clause-whole
 returns-clause-whole g c =
-    items_done (input_text c.args.format c.args.net.now) c.args.between.now c.args.ports.now c.loop-port.before.now c.loop-port.port-index (omega (arith, c.loop-port-test.false)) c.loop-port.invariant.front
+    items_done (input_text c.args.format c.args.net.now) c.args.between.now c.args.ports.now
+    c.loop-port.before.now c.loop-port.port-index
+    (omega (arith, c.loop-port-test.false)) c.loop-port.invariant.front

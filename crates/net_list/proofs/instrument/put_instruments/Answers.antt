@@ -13,10 +13,18 @@ returns-in_err-put_instrument-clause-part g c =
     let m = c.inst_count-count.result - (i + 1) in
     let more : n ≡ suc m = omega arith in
     let next : i + 1 ≡ suc i = omega arith in
-    let here : lines_from (instrument_line c.args.format c.args.net.now) i n ≡ (instrument_line c.args.format c.args.net.now) i ++ lines_from (instrument_line c.args.format c.args.net.now) (i + 1) m = lines_next (instrument_line c.args.format c.args.net.now) i (i + 1) n m more next in
-    let front = subst (λ (rest : List ℕ). AddsFront (g.K.Sink.taken c.args.k.now) (g.K.Sink.taken c.loop-inst.k) rest (lines_from (instrument_line c.args.format c.args.net.now) 0 c.inst_count-count.result)) here c.loop-inst.invariant.front in
+    let here : lines_from (instrument_line c.args.format c.args.net.now) i n
+    ≡ (instrument_line c.args.format c.args.net.now) i
+    ++ lines_from (instrument_line c.args.format c.args.net.now) (i + 1) m =
+    lines_next (instrument_line c.args.format c.args.net.now) i (i + 1) n m more next in
+    let front =
+    subst (λ (rest : List ℕ). AddsFront (g.K.Sink.taken c.args.k.now) (g.K.Sink.taken c.loop-inst.k) rest
+    (lines_from (instrument_line c.args.format c.args.net.now) 0 c.inst_count-count.result))
+    here c.loop-inst.invariant.front in
     at_refusal c.from_residual.result
-    (adds_part_as (ap (lines_from (instrument_line c.args.format c.args.net.now) 0) c.inst_count-count.ensures) (front_part ((instrument_line c.args.format c.args.net.now) i) (lines_from (instrument_line c.args.format c.args.net.now) (i + 1) m) front c.in_err-put_instrument.ensures.part))
+    (adds_part_as (ap (lines_from (instrument_line c.args.format c.args.net.now) 0)
+    c.inst_count-count.ensures) (front_part ((instrument_line c.args.format c.args.net.now) i) (lines_from
+    (instrument_line c.args.format c.args.net.now) (i + 1) m) front c.in_err-put_instrument.ensures.part))
 
 pub loop-inst-preserved : goal.loop-inst-preserved
 loop-inst-preserved g c =
@@ -25,14 +33,24 @@ loop-inst-preserved g c =
     let m = c.inst_count-count.result - (i + 1) in
     let more : n ≡ suc m = omega arith in
     let next : i + 1 ≡ suc i = omega arith in
-    let here : lines_from (instrument_line c.args.format c.args.net.now) i n ≡ (instrument_line c.args.format c.args.net.now) i ++ lines_from (instrument_line c.args.format c.args.net.now) (i + 1) m = lines_next (instrument_line c.args.format c.args.net.now) i (i + 1) n m more next in
-    let front = subst (λ (rest : List ℕ). AddsFront (g.K.Sink.taken c.args.k.now) (g.K.Sink.taken c.loop-inst.k) rest (lines_from (instrument_line c.args.format c.args.net.now) 0 c.inst_count-count.result)) here c.loop-inst.invariant.front in
+    let here : lines_from (instrument_line c.args.format c.args.net.now) i n
+    ≡ (instrument_line c.args.format c.args.net.now) i
+    ++ lines_from (instrument_line c.args.format c.args.net.now) (i + 1) m =
+    lines_next (instrument_line c.args.format c.args.net.now) i (i + 1) n m more next in
+    let front =
+    subst (λ (rest : List ℕ). AddsFront (g.K.Sink.taken c.args.k.now) (g.K.Sink.taken c.loop-inst.k) rest
+    (lines_from (instrument_line c.args.format c.args.net.now) 0 c.inst_count-count.result))
+    here c.loop-inst.invariant.front in
     record {
-      front = front_next ((instrument_line c.args.format c.args.net.now) i) (lines_from (instrument_line c.args.format c.args.net.now) (i + 1) m) front c.in_ok-put_instrument.ensures.whole;
+      front = front_next ((instrument_line c.args.format c.args.net.now) i)
+          (lines_from (instrument_line c.args.format c.args.net.now) (i + 1) m)
+          front c.in_ok-put_instrument.ensures.whole;
       later = omega (arith, c.put_instrument.ensures.cause.later);
     }
 
 pub returns-clause-whole : goal.returns-clause-whole
 returns-clause-whole g c =
     let none : c.inst_count-count.result - c.loop-inst.inst ≡ 0 = omega (arith, c.loop-inst-test.false) in
-    adds_as (ap (lines_from (instrument_line c.args.format c.args.net.now) 0) c.inst_count-count.ensures) (lines_done (instrument_line c.args.format c.args.net.now) c.loop-inst.inst (c.inst_count-count.result - c.loop-inst.inst) none c.loop-inst.invariant.front)
+    adds_as (ap (lines_from (instrument_line c.args.format c.args.net.now) 0) c.inst_count-count.ensures)
+    (lines_done (instrument_line c.args.format c.args.net.now) c.loop-inst.inst
+    (c.inst_count-count.result - c.loop-inst.inst) none c.loop-inst.invariant.front)

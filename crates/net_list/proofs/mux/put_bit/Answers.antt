@@ -2,16 +2,23 @@ use Rattle.ij_io.proofs.Adding.{adds_both, adds_front, adds_then_part, at_refusa
 use Rattle.net_list.proofs.mux.put_bit.Goals as goal
 
 pub returns-in_err-write-clause-part : goal.returns-in_err-write-clause-part
-returns-in_err-write-clause-part g c = at_refusal c.from_residual.result (adds_front _ c.in_err-write.ensures.part)
+returns-in_err-write-clause-part g c =
+    at_refusal c.from_residual.result (adds_front _ c.in_err-write.ensures.part)
 
 pub returns-in_err-put_either-clause-part : goal.returns-in_err-put_either-clause-part
-returns-in_err-put_either-clause-part g c = at_refusal c.from_residual-in_err-put_either.result (adds_then_part c.in_ok-write.ensures.whole (adds_front _ c.in_err-put_either.ensures.part))
+returns-in_err-put_either-clause-part g c = at_refusal c.from_residual-in_err-put_either.result
+    (adds_then_part c.in_ok-write.ensures.whole (adds_front _ c.in_err-put_either.ensures.part))
 
 pub returns-in_err-put_bit_name-clause-part : goal.returns-in_err-put_bit_name-clause-part
-returns-in_err-put_bit_name-clause-part g c = at_refusal c.from_residual-in_err-put_bit_name.result (adds_then_part c.in_ok-write.ensures.whole (adds_then_part c.in_ok-put_either.ensures.whole (adds_front _ c.in_err-put_bit_name.ensures.part)))
+returns-in_err-put_bit_name-clause-part g c =
+    at_refusal c.from_residual-in_err-put_bit_name.result (adds_then_part c.in_ok-write.ensures.whole
+    (adds_then_part c.in_ok-put_either.ensures.whole (adds_front _ c.in_err-put_bit_name.ensures.part)))
 
 pub returns-in_err-put_either-2-clause-part : goal.returns-in_err-put_either-2-clause-part
-returns-in_err-put_either-2-clause-part g c = at_refusal c.from_residual-in_err-put_either-2.result (adds_then_part c.in_ok-write.ensures.whole (adds_then_part c.in_ok-put_either.ensures.whole (adds_then_part c.in_ok-put_bit_name.ensures.whole c.in_err-put_either-2.ensures.part)))
+returns-in_err-put_either-2-clause-part g c = at_refusal c.from_residual-in_err-put_either-2.result
+    (adds_then_part c.in_ok-write.ensures.whole (adds_then_part c.in_ok-put_either.ensures.whole
+    (adds_then_part c.in_ok-put_bit_name.ensures.whole c.in_err-put_either-2.ensures.part)))
 
 pub returns-clause-whole : goal.returns-clause-whole
-returns-clause-whole g c = adds_both c.in_ok-write.ensures.whole (adds_both c.in_ok-put_either.ensures.whole (adds_both c.in_ok-put_bit_name.ensures.whole c.in_ok-put_either-2.ensures.whole))
+returns-clause-whole g c = adds_both c.in_ok-write.ensures.whole (adds_both c.in_ok-put_either.ensures.whole
+    (adds_both c.in_ok-put_bit_name.ensures.whole c.in_ok-put_either-2.ensures.whole))

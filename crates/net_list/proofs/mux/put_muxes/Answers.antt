@@ -13,10 +13,19 @@ returns-in_err-put_mux-clause-part g c =
     let m = c.mux_count-count.result - (i + 1) in
     let more : n ≡ suc m = omega arith in
     let next : i + 1 ≡ suc i = omega arith in
-    let here : lines_from (mux_line c.args.format c.args.net.now c.args.tree.now) i n ≡ (mux_line c.args.format c.args.net.now c.args.tree.now) i ++ lines_from (mux_line c.args.format c.args.net.now c.args.tree.now) (i + 1) m = lines_next (mux_line c.args.format c.args.net.now c.args.tree.now) i (i + 1) n m more next in
-    let front = subst (λ (rest : List ℕ). AddsFront (g.K.Sink.taken c.args.k.now) (g.K.Sink.taken c.loop-mux.k) rest (lines_from (mux_line c.args.format c.args.net.now c.args.tree.now) 0 c.mux_count-count.result)) here c.loop-mux.invariant.front in
+    let here : lines_from (mux_line c.args.format c.args.net.now c.args.tree.now) i n
+    ≡ (mux_line c.args.format c.args.net.now c.args.tree.now) i
+    ++ lines_from (mux_line c.args.format c.args.net.now c.args.tree.now) (i + 1) m =
+    lines_next (mux_line c.args.format c.args.net.now c.args.tree.now) i (i + 1) n m more next in
+    let front =
+    subst (λ (rest : List ℕ). AddsFront (g.K.Sink.taken c.args.k.now) (g.K.Sink.taken c.loop-mux.k) rest
+    (lines_from (mux_line c.args.format c.args.net.now c.args.tree.now) 0 c.mux_count-count.result))
+    here c.loop-mux.invariant.front in
     at_refusal c.from_residual.result
-    (adds_part_as (ap (lines_from (mux_line c.args.format c.args.net.now c.args.tree.now) 0) c.mux_count-count.ensures) (front_part ((mux_line c.args.format c.args.net.now c.args.tree.now) i) (lines_from (mux_line c.args.format c.args.net.now c.args.tree.now) (i + 1) m) front c.in_err-put_mux.ensures.part))
+    (adds_part_as (ap (lines_from (mux_line c.args.format c.args.net.now c.args.tree.now) 0)
+    c.mux_count-count.ensures) (front_part ((mux_line c.args.format c.args.net.now c.args.tree.now) i)
+    (lines_from (mux_line c.args.format c.args.net.now c.args.tree.now) (i + 1) m)
+    front c.in_err-put_mux.ensures.part))
 
 pub loop-mux-preserved : goal.loop-mux-preserved
 loop-mux-preserved g c =
@@ -25,14 +34,24 @@ loop-mux-preserved g c =
     let m = c.mux_count-count.result - (i + 1) in
     let more : n ≡ suc m = omega arith in
     let next : i + 1 ≡ suc i = omega arith in
-    let here : lines_from (mux_line c.args.format c.args.net.now c.args.tree.now) i n ≡ (mux_line c.args.format c.args.net.now c.args.tree.now) i ++ lines_from (mux_line c.args.format c.args.net.now c.args.tree.now) (i + 1) m = lines_next (mux_line c.args.format c.args.net.now c.args.tree.now) i (i + 1) n m more next in
-    let front = subst (λ (rest : List ℕ). AddsFront (g.K.Sink.taken c.args.k.now) (g.K.Sink.taken c.loop-mux.k) rest (lines_from (mux_line c.args.format c.args.net.now c.args.tree.now) 0 c.mux_count-count.result)) here c.loop-mux.invariant.front in
+    let here : lines_from (mux_line c.args.format c.args.net.now c.args.tree.now) i n
+    ≡ (mux_line c.args.format c.args.net.now c.args.tree.now) i
+    ++ lines_from (mux_line c.args.format c.args.net.now c.args.tree.now) (i + 1) m =
+    lines_next (mux_line c.args.format c.args.net.now c.args.tree.now) i (i + 1) n m more next in
+    let front =
+    subst (λ (rest : List ℕ). AddsFront (g.K.Sink.taken c.args.k.now) (g.K.Sink.taken c.loop-mux.k) rest
+    (lines_from (mux_line c.args.format c.args.net.now c.args.tree.now) 0 c.mux_count-count.result))
+    here c.loop-mux.invariant.front in
     record {
-      front = front_next ((mux_line c.args.format c.args.net.now c.args.tree.now) i) (lines_from (mux_line c.args.format c.args.net.now c.args.tree.now) (i + 1) m) front c.in_ok-put_mux.ensures.whole;
+      front = front_next ((mux_line c.args.format c.args.net.now c.args.tree.now) i)
+          (lines_from (mux_line c.args.format c.args.net.now c.args.tree.now) (i + 1) m)
+          front c.in_ok-put_mux.ensures.whole;
       later = omega (arith, c.put_mux.ensures.cause.later);
     }
 
 pub returns-clause-whole : goal.returns-clause-whole
 returns-clause-whole g c =
     let none : c.mux_count-count.result - c.loop-mux.mux ≡ 0 = omega (arith, c.loop-mux-test.false) in
-    adds_as (ap (lines_from (mux_line c.args.format c.args.net.now c.args.tree.now) 0) c.mux_count-count.ensures) (lines_done (mux_line c.args.format c.args.net.now c.args.tree.now) c.loop-mux.mux (c.mux_count-count.result - c.loop-mux.mux) none c.loop-mux.invariant.front)
+    adds_as (ap (lines_from (mux_line c.args.format c.args.net.now c.args.tree.now) 0)
+    c.mux_count-count.ensures) (lines_done (mux_line c.args.format c.args.net.now c.args.tree.now)
+    c.loop-mux.mux (c.mux_count-count.result - c.loop-mux.mux) none c.loop-mux.invariant.front)

@@ -13,7 +13,8 @@ returns-in_err-put_bit-clause-part g c =
     let m = length bits - (c.loop-j.j + 1) in
     let more : n ≡ suc m = omega (arith, c.loop-j-test.true) in
     let place : length bits - 1 - c.loop-j.j ≡ m = omega arith in
-    at_refusal c.from_residual.result (bit_part f net before bits n m _ c.from_left.result more place c.from_left.ensures c.loop-j.invariant.front c.in_err-put_bit.ensures.part)
+    at_refusal c.from_residual.result (bit_part f net before bits n m _ c.from_left.result more place
+    c.from_left.ensures c.loop-j.invariant.front c.in_err-put_bit.ensures.part)
 
 pub loop-j-preserved : goal.loop-j-preserved
 loop-j-preserved g c =
@@ -26,6 +27,7 @@ loop-j-preserved g c =
     let more : n ≡ suc m = omega (arith, c.loop-j-test.true) in
     let place : length bits - 1 - c.loop-j.j ≡ m = omega arith in
     record {
-      front = bit_next f net before bits n m _ c.from_left.result c.either-between.result.now more place c.from_left.ensures c.either-between.ensures c.loop-j.invariant.front c.in_ok-put_bit.ensures.whole;
+      front = bit_next f net before bits n m _ c.from_left.result c.either-between.result.now more place
+          c.from_left.ensures c.either-between.ensures c.loop-j.invariant.front c.in_ok-put_bit.ensures.whole;
       later = omega (arith, c.put_bit.ensures.cause.later);
     }

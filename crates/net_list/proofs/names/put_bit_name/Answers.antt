@@ -2,10 +2,12 @@ use Rattle.ij_io.proofs.Adding.{adds_both, adds_front, adds_then_part, at_refusa
 use Rattle.net_list.proofs.names.put_bit_name.Goals as goal
 
 pub returns-in_err-put_open_name-clause-part : goal.returns-in_err-put_open_name-clause-part
-returns-in_err-put_open_name-clause-part g c = at_refusal c.from_residual.result (adds_front _ c.in_err-put_open_name.ensures.part)
+returns-in_err-put_open_name-clause-part g c =
+    at_refusal c.from_residual.result (adds_front _ c.in_err-put_open_name.ensures.part)
 
 pub returns-in_err-write-clause-part : goal.returns-in_err-write-clause-part
-returns-in_err-write-clause-part g c = at_refusal c.from_residual-in_err-write.result (adds_then_part c.in_ok-put_open_name.ensures.whole c.in_err-write.ensures.part)
+returns-in_err-write-clause-part g c = at_refusal c.from_residual-in_err-write.result
+    (adds_then_part c.in_ok-put_open_name.ensures.whole c.in_err-write.ensures.part)
 
 pub returns-clause-whole : goal.returns-clause-whole
 returns-clause-whole g c = adds_both c.in_ok-put_open_name.ensures.whole c.in_ok-write.ensures.whole

@@ -13,10 +13,18 @@ returns-in_err-put_register-clause-part g c =
     let m = c.register_count-count.result - (i + 1) in
     let more : n ≡ suc m = omega arith in
     let next : i + 1 ≡ suc i = omega arith in
-    let here : lines_from (register_line c.args.format c.args.net.now c.args.tree.now) i n ≡ (register_line c.args.format c.args.net.now c.args.tree.now) i ++ lines_from (register_line c.args.format c.args.net.now c.args.tree.now) (i + 1) m = lines_next (register_line c.args.format c.args.net.now c.args.tree.now) i (i + 1) n m more next in
-    let front = subst (λ (rest : List ℕ). AddsFront (g.K.Sink.taken c.args.k.now) (g.K.Sink.taken c.loop-reg.k) rest (lines_from (register_line c.args.format c.args.net.now c.args.tree.now) 0 c.register_count-count.result)) here c.loop-reg.invariant.front in
+    let here : lines_from (register_line c.args.format c.args.net.now c.args.tree.now) i n
+    ≡ (register_line c.args.format c.args.net.now c.args.tree.now) i
+    ++ lines_from (register_line c.args.format c.args.net.now c.args.tree.now) (i + 1) m =
+    lines_next (register_line c.args.format c.args.net.now c.args.tree.now) i (i + 1) n m more next in
+    let front = subst (λ (rest : List ℕ). AddsFront (g.K.Sink.taken c.args.k.now)
+    (g.K.Sink.taken c.loop-reg.k) rest (lines_from (register_line c.args.format c.args.net.now
+    c.args.tree.now) 0 c.register_count-count.result)) here c.loop-reg.invariant.front in
     at_refusal c.from_residual-in_err-put_register.result
-    (adds_part_as (ap (lines_from (register_line c.args.format c.args.net.now c.args.tree.now) 0) c.register_count-count.ensures) (front_part ((register_line c.args.format c.args.net.now c.args.tree.now) i) (lines_from (register_line c.args.format c.args.net.now c.args.tree.now) (i + 1) m) front c.in_err-put_register.ensures.part))
+    (adds_part_as (ap (lines_from (register_line c.args.format c.args.net.now c.args.tree.now) 0)
+    c.register_count-count.ensures) (front_part
+    ((register_line c.args.format c.args.net.now c.args.tree.now) i) (lines_from (register_line
+    c.args.format c.args.net.now c.args.tree.now) (i + 1) m) front c.in_err-put_register.ensures.part))
 
 pub loop-reg-preserved : goal.loop-reg-preserved
 loop-reg-preserved g c =
@@ -25,14 +33,24 @@ loop-reg-preserved g c =
     let m = c.register_count-count.result - (i + 1) in
     let more : n ≡ suc m = omega arith in
     let next : i + 1 ≡ suc i = omega arith in
-    let here : lines_from (register_line c.args.format c.args.net.now c.args.tree.now) i n ≡ (register_line c.args.format c.args.net.now c.args.tree.now) i ++ lines_from (register_line c.args.format c.args.net.now c.args.tree.now) (i + 1) m = lines_next (register_line c.args.format c.args.net.now c.args.tree.now) i (i + 1) n m more next in
-    let front = subst (λ (rest : List ℕ). AddsFront (g.K.Sink.taken c.args.k.now) (g.K.Sink.taken c.loop-reg.k) rest (lines_from (register_line c.args.format c.args.net.now c.args.tree.now) 0 c.register_count-count.result)) here c.loop-reg.invariant.front in
+    let here : lines_from (register_line c.args.format c.args.net.now c.args.tree.now) i n
+    ≡ (register_line c.args.format c.args.net.now c.args.tree.now) i
+    ++ lines_from (register_line c.args.format c.args.net.now c.args.tree.now) (i + 1) m =
+    lines_next (register_line c.args.format c.args.net.now c.args.tree.now) i (i + 1) n m more next in
+    let front = subst (λ (rest : List ℕ). AddsFront (g.K.Sink.taken c.args.k.now)
+    (g.K.Sink.taken c.loop-reg.k) rest (lines_from (register_line c.args.format c.args.net.now
+    c.args.tree.now) 0 c.register_count-count.result)) here c.loop-reg.invariant.front in
     record {
-      front = front_next ((register_line c.args.format c.args.net.now c.args.tree.now) i) (lines_from (register_line c.args.format c.args.net.now c.args.tree.now) (i + 1) m) front c.in_ok-put_register.ensures.whole;
+      front = front_next ((register_line c.args.format c.args.net.now c.args.tree.now) i)
+          (lines_from (register_line c.args.format c.args.net.now c.args.tree.now) (i + 1) m)
+          front c.in_ok-put_register.ensures.whole;
       later = omega (arith, c.put_register.ensures.cause.later);
     }
 
 pub returns-clause-whole : goal.returns-clause-whole
 returns-clause-whole g c =
     let none : c.register_count-count.result - c.loop-reg.reg ≡ 0 = omega (arith, c.loop-reg-test.false) in
-    adds_as (ap (lines_from (register_line c.args.format c.args.net.now c.args.tree.now) 0) c.register_count-count.ensures) (lines_done (register_line c.args.format c.args.net.now c.args.tree.now) c.loop-reg.reg (c.register_count-count.result - c.loop-reg.reg) none c.loop-reg.invariant.front)
+    adds_as (ap (lines_from (register_line c.args.format c.args.net.now c.args.tree.now) 0)
+    c.register_count-count.ensures)
+    (lines_done (register_line c.args.format c.args.net.now c.args.tree.now) c.loop-reg.reg
+    (c.register_count-count.result - c.loop-reg.reg) none c.loop-reg.invariant.front)

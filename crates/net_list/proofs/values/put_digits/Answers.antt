@@ -13,9 +13,12 @@ returns-in_err-write-clause-part g c =
     let more : n ≡ suc m = omega arith in
     let place : c.args.width - 1 - c.loop-j.j ≡ m = omega arith in
     let is : c.digit_of.result ≡ tern_digit t m = c.digit_of.ensures ∙ ap (λ (p : ℕ). tern_digit t p) place in
-    let here : tern_digits t n ≡ (c.digit_of.result ∷ []) ++ tern_digits t m = digits_next t n m c.digit_of.result more is in
-    let front = subst (λ (rest : List ℕ). AddsFront (g.K.Sink.taken c.args.k.now) (g.K.Sink.taken c.loop-j.k) rest (tern_digits t c.args.width)) here c.loop-j.invariant.front in
-    at_refusal c.from_residual.result (front_part (c.digit_of.result ∷ []) (tern_digits t m) front c.in_err-write.ensures.part)
+    let here : tern_digits t n ≡ (c.digit_of.result ∷ []) ++ tern_digits t m =
+    digits_next t n m c.digit_of.result more is in
+    let front = subst (λ (rest : List ℕ). AddsFront (g.K.Sink.taken c.args.k.now)
+    (g.K.Sink.taken c.loop-j.k) rest (tern_digits t c.args.width)) here c.loop-j.invariant.front in
+    at_refusal c.from_residual.result
+    (front_part (c.digit_of.result ∷ []) (tern_digits t m) front c.in_err-write.ensures.part)
 
 pub loop-j-preserved : goal.loop-j-preserved
 loop-j-preserved g c =
@@ -25,8 +28,10 @@ loop-j-preserved g c =
     let more : n ≡ suc m = omega arith in
     let place : c.args.width - 1 - c.loop-j.j ≡ m = omega arith in
     let is : c.digit_of.result ≡ tern_digit t m = c.digit_of.ensures ∙ ap (λ (p : ℕ). tern_digit t p) place in
-    let here : tern_digits t n ≡ (c.digit_of.result ∷ []) ++ tern_digits t m = digits_next t n m c.digit_of.result more is in
-    let front = subst (λ (rest : List ℕ). AddsFront (g.K.Sink.taken c.args.k.now) (g.K.Sink.taken c.loop-j.k) rest (tern_digits t c.args.width)) here c.loop-j.invariant.front in
+    let here : tern_digits t n ≡ (c.digit_of.result ∷ []) ++ tern_digits t m =
+    digits_next t n m c.digit_of.result more is in
+    let front = subst (λ (rest : List ℕ). AddsFront (g.K.Sink.taken c.args.k.now)
+    (g.K.Sink.taken c.loop-j.k) rest (tern_digits t c.args.width)) here c.loop-j.invariant.front in
     record {
       front = front_next (c.digit_of.result ∷ []) (tern_digits t m) front c.in_ok-write.ensures.whole;
       later = omega (arith, c.write.ensures.cause.later);

@@ -5,10 +5,16 @@ use Rattle.net_list.specs.Forms.{tern_digits}
 use Rattle.net_list.proofs.values.put_value.Goals as goal
 
 pub returns-in_err-write-clause-part : goal.returns-in_err-write-clause-part
-returns-in_err-write-clause-part g c = at_refusal c.from_residual.result (adds_part_as (ap (λ (n : ℕ). c.args.before.now ++ tern_digits c.args.value.now n) c.len-width.ensures.value) (adds_front _ c.in_err-write.ensures.part))
+returns-in_err-write-clause-part g c = at_refusal c.from_residual.result (adds_part_as
+    (ap (λ (n : ℕ). c.args.before.now ++ tern_digits c.args.value.now n) c.len-width.ensures.value)
+    (adds_front _ c.in_err-write.ensures.part))
 
 pub returns-in_err-put_digits-clause-part : goal.returns-in_err-put_digits-clause-part
-returns-in_err-put_digits-clause-part g c = at_refusal c.from_residual-in_err-put_digits.result (adds_part_as (ap (λ (n : ℕ). c.args.before.now ++ tern_digits c.args.value.now n) c.len-width.ensures.value) (adds_then_part c.in_ok-write.ensures.whole c.in_err-put_digits.ensures.part))
+returns-in_err-put_digits-clause-part g c = at_refusal c.from_residual-in_err-put_digits.result (adds_part_as
+    (ap (λ (n : ℕ). c.args.before.now ++ tern_digits c.args.value.now n) c.len-width.ensures.value)
+    (adds_then_part c.in_ok-write.ensures.whole c.in_err-put_digits.ensures.part))
 
 pub returns-clause-whole : goal.returns-clause-whole
-returns-clause-whole g c = adds_as (ap (λ (n : ℕ). c.args.before.now ++ tern_digits c.args.value.now n) c.len-width.ensures.value) (adds_both c.in_ok-write.ensures.whole c.in_ok-put_digits.ensures.whole)
+returns-clause-whole g c =
+    adds_as (ap (λ (n : ℕ). c.args.before.now ++ tern_digits c.args.value.now n) c.len-width.ensures.value)
+    (adds_both c.in_ok-write.ensures.whole c.in_ok-put_digits.ensures.whole)

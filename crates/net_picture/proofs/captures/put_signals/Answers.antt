@@ -13,6 +13,11 @@ loop-j-preserved c =
     let more : n ≡ suc m = omega (arith, c.loop-j-test.true) in
     let place : m ≡ p = omega arith in
     let here : captures net signals n ≡ capture_at net signals p ++ captures net signals m =
-    ap (captures net signals) more ∙ ap (λ (q : ℕ). capture_at net signals q ++ captures net signals m) place in
-    let front = subst (λ (rest : List ℕ). AddsFront (Some c.args.text.now) (Some c.loop-j.text) rest (captures net signals (length signals))) here c.loop-j.invariant.front in
-    record { front = front_next (capture_at net signals p) (captures net signals m) front c.in_ok-put_capture.ensures }
+    ap (captures net signals) more
+    ∙ ap (λ (q : ℕ). capture_at net signals q ++ captures net signals m) place in
+    let front = subst (λ (rest : List ℕ). AddsFront (Some c.args.text.now) (Some c.loop-j.text) rest
+    (captures net signals (length signals))) here c.loop-j.invariant.front in
+    record {
+      front = front_next (capture_at net signals p)
+          (captures net signals m) front c.in_ok-put_capture.ensures;
+    }

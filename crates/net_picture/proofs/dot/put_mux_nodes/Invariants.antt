@@ -6,6 +6,8 @@ use Rattle.net_picture.proofs.dot.put_mux_nodes.Given as goal
 
 abbrev pub invariant-loop-mux : goal.invariant-loop-mux
 invariant-loop-mux g l = record {
-  front : AddsFront (g.K.Sink.taken l.fn.k) (g.K.Sink.taken l.k) (lines_from (mux_node l.net l.marks.marked l.marks.met.now) l.mux (l.count - l.mux)) (lines_from (mux_node l.net l.marks.marked l.marks.met.now) 0 l.count);
+  front : AddsFront (g.K.Sink.taken l.fn.k) (g.K.Sink.taken l.k)
+      (lines_from (mux_node l.net l.marks.marked l.marks.met.now) l.mux (l.count - l.mux))
+      (lines_from (mux_node l.net l.marks.marked l.marks.met.now) 0 l.count);
   later : g.K.Sink.faults l.fn.k ≤ g.K.Sink.faults l.k;
 }

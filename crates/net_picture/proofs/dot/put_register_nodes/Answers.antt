@@ -13,8 +13,12 @@ returns-in_err-put_register_node-clause-part g c =
     let count = c.register_count-count.result in
     let more : count - i ≡ suc (count - (i + 1)) = omega arith in
     let next : i + 1 ≡ suc i = omega arith in
-    let front = subst (λ (rest : List ℕ). AddsFront (g.K.Sink.taken c.args.k.now) (g.K.Sink.taken c.loop-reg.k) rest (lines_from line 0 count)) (line_then line i (i + 1) (count - i) (count - (i + 1)) more next) c.loop-reg.invariant.front in
-    at_refusal c.from_residual.result (adds_part_as (ap (lines_from line 0) c.register_count-count.ensures) (front_part (line i) (lines_from line (i + 1) (count - (i + 1))) front c.in_err-put_register_node.ensures.part))
+    let front = subst (λ (rest : List ℕ). AddsFront (g.K.Sink.taken c.args.k.now)
+    (g.K.Sink.taken c.loop-reg.k) rest (lines_from line 0 count))
+    (line_then line i (i + 1) (count - i) (count - (i + 1)) more next) c.loop-reg.invariant.front in
+    at_refusal c.from_residual.result
+    (adds_part_as (ap (lines_from line 0) c.register_count-count.ensures) (front_part (line i)
+    (lines_from line (i + 1) (count - (i + 1))) front c.in_err-put_register_node.ensures.part))
 
 pub loop-reg-preserved : goal.loop-reg-preserved
 loop-reg-preserved g c =
@@ -23,9 +27,12 @@ loop-reg-preserved g c =
     let count = c.register_count-count.result in
     let more : count - i ≡ suc (count - (i + 1)) = omega arith in
     let next : i + 1 ≡ suc i = omega arith in
-    let front = subst (λ (rest : List ℕ). AddsFront (g.K.Sink.taken c.args.k.now) (g.K.Sink.taken c.loop-reg.k) rest (lines_from line 0 count)) (line_then line i (i + 1) (count - i) (count - (i + 1)) more next) c.loop-reg.invariant.front in
+    let front = subst (λ (rest : List ℕ). AddsFront (g.K.Sink.taken c.args.k.now)
+    (g.K.Sink.taken c.loop-reg.k) rest (lines_from line 0 count))
+    (line_then line i (i + 1) (count - i) (count - (i + 1)) more next) c.loop-reg.invariant.front in
     record {
-      front = front_next (line i) (lines_from line (i + 1) (count - (i + 1))) front c.in_ok-put_register_node.ensures.whole;
+      front = front_next (line i)
+          (lines_from line (i + 1) (count - (i + 1))) front c.in_ok-put_register_node.ensures.whole;
       later = omega (arith, c.put_register_node.ensures.cause.later);
     }
 
@@ -33,4 +40,5 @@ pub returns-clause-whole : goal.returns-clause-whole
 returns-clause-whole g c =
     let line : ℕ → List ℕ = register_node c.args.net.now c.args.marks.marked c.args.marks.met.now in
     let none : c.register_count-count.result - c.loop-reg.reg ≡ 0 = omega (arith, c.loop-reg-test.false) in
-    adds_as (ap (lines_from line 0) c.register_count-count.ensures) (all_lines line c.loop-reg.reg (c.register_count-count.result - c.loop-reg.reg) none c.loop-reg.invariant.front)
+    adds_as (ap (lines_from line 0) c.register_count-count.ensures) (all_lines line c.loop-reg.reg
+    (c.register_count-count.result - c.loop-reg.reg) none c.loop-reg.invariant.front)

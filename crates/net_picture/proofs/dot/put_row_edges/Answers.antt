@@ -13,8 +13,12 @@ returns-in_err-put_row_line-clause-part g c =
     let count = c.row_count-count.result in
     let more : count - i ≡ suc (count - (i + 1)) = omega arith in
     let next : i + 1 ≡ suc i = omega arith in
-    let front = subst (λ (rest : List ℕ). AddsFront (g.K.Sink.taken c.args.k.now) (g.K.Sink.taken c.loop-row.k) rest (lines_from line 0 count)) (line_then line i (i + 1) (count - i) (count - (i + 1)) more next) c.loop-row.invariant.front in
-    at_refusal c.from_residual.result (adds_part_as (ap (lines_from line 0) c.row_count-count.ensures) (front_part (line i) (lines_from line (i + 1) (count - (i + 1))) front c.in_err-put_row_line.ensures.part))
+    let front = subst (λ (rest : List ℕ). AddsFront (g.K.Sink.taken c.args.k.now)
+    (g.K.Sink.taken c.loop-row.k) rest (lines_from line 0 count))
+    (line_then line i (i + 1) (count - i) (count - (i + 1)) more next) c.loop-row.invariant.front in
+    at_refusal c.from_residual.result
+    (adds_part_as (ap (lines_from line 0) c.row_count-count.ensures) (front_part (line i)
+    (lines_from line (i + 1) (count - (i + 1))) front c.in_err-put_row_line.ensures.part))
 
 pub loop-row-preserved : goal.loop-row-preserved
 loop-row-preserved g c =
@@ -23,9 +27,12 @@ loop-row-preserved g c =
     let count = c.row_count-count.result in
     let more : count - i ≡ suc (count - (i + 1)) = omega arith in
     let next : i + 1 ≡ suc i = omega arith in
-    let front = subst (λ (rest : List ℕ). AddsFront (g.K.Sink.taken c.args.k.now) (g.K.Sink.taken c.loop-row.k) rest (lines_from line 0 count)) (line_then line i (i + 1) (count - i) (count - (i + 1)) more next) c.loop-row.invariant.front in
+    let front = subst (λ (rest : List ℕ). AddsFront (g.K.Sink.taken c.args.k.now)
+    (g.K.Sink.taken c.loop-row.k) rest (lines_from line 0 count))
+    (line_then line i (i + 1) (count - i) (count - (i + 1)) more next) c.loop-row.invariant.front in
     record {
-      front = front_next (line i) (lines_from line (i + 1) (count - (i + 1))) front c.in_ok-put_row_line.ensures.whole;
+      front = front_next (line i)
+          (lines_from line (i + 1) (count - (i + 1))) front c.in_ok-put_row_line.ensures.whole;
       later = omega (arith, c.put_row_line.ensures.cause.later);
     }
 
@@ -33,4 +40,5 @@ pub returns-clause-whole : goal.returns-clause-whole
 returns-clause-whole g c =
     let line : ℕ → List ℕ = row_line c.args.net.now c.args.active c.args.selected c.args.mux in
     let none : c.row_count-count.result - c.loop-row.row ≡ 0 = omega (arith, c.loop-row-test.false) in
-    adds_as (ap (lines_from line 0) c.row_count-count.ensures) (all_lines line c.loop-row.row (c.row_count-count.result - c.loop-row.row) none c.loop-row.invariant.front)
+    adds_as (ap (lines_from line 0) c.row_count-count.ensures) (all_lines line c.loop-row.row
+    (c.row_count-count.result - c.loop-row.row) none c.loop-row.invariant.front)

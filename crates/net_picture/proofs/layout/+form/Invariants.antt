@@ -29,14 +29,19 @@ decreases-draw_items-loop-done l = length l.entries - l.done.at
 abbrev pub invariant-draw_items-loop-done : goal.invariant-draw_items-loop-done
 invariant-draw_items-loop-done l = record {
   within : l.done.at ≤ length l.entries;
-  left : (end : Pen) (all : List Shape) → ItemsAreLeft (seen_plan l.plan) l.active (drop 0 l.entries) l.fn.pen l.fn.shapes.items end all → ItemsAreLeft (seen_plan l.plan) l.active (drop l.done.at l.entries) l.done.pen l.shapes.items end all;
+  left : (end : Pen) (all : List Shape)
+      → ItemsAreLeft (seen_plan l.plan) l.active (drop 0 l.entries) l.fn.pen l.fn.shapes.items end all
+      → ItemsAreLeft (seen_plan l.plan) l.active (drop l.done.at l.entries) l.done.pen l.shapes.items end all;
 }
 
 abbrev pub invariant-draw_rows-loop-q : goal.invariant-draw_rows-loop-q
 invariant-draw_rows-loop-q l = record {
   later : l.fn.begun.at ≤ l.done.at;
   within : l.done.at ≤ length l.entries;
-  left : (k : ℕ) (after : List Entry) (end : Fan) (all : List Shape) (all_ends : List RowEnd) → l.q + k ≡ l.count
-      → RowsAreLeft (seen_plan l.plan) l.parting.active l.parting.row l.parting.pen 0 l.count (drop l.fn.begun.at l.entries) after l.fn.begun.fan l.fn.shapes.items l.fn.ends.items end all all_ends
-      → RowsAreLeft (seen_plan l.plan) l.parting.active l.parting.row l.parting.pen l.q k (drop l.done.at l.entries) after l.done.fan l.shapes.items l.ends.items end all all_ends;
+  left : (k : ℕ) (after : List Entry) (end : Fan) (all : List Shape) (all_ends : List RowEnd)
+      → l.q + k ≡ l.count
+      → RowsAreLeft (seen_plan l.plan) l.parting.active l.parting.row l.parting.pen 0 l.count (drop
+      l.fn.begun.at l.entries) after l.fn.begun.fan l.fn.shapes.items l.fn.ends.items end all all_ends
+      → RowsAreLeft (seen_plan l.plan) l.parting.active l.parting.row l.parting.pen l.q k
+      (drop l.done.at l.entries) after l.done.fan l.shapes.items l.ends.items end all all_ends;
 }

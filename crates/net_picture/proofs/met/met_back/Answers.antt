@@ -12,5 +12,7 @@ loop-turn-preserved c =
     let more : n ≡ suc m = omega (arith, c.loop-turn-test.true) in
     record {
       there = c.in_ok-next.ensures.there;
-      so_far = met_turn net c.args.holds.now n m c.loop-turn.next c.in_ok-next.next c.loop-turn.points.items c.meet.new.points.items (met_from net c.args.holds.now c.most_moves-most.result (Some net.out)) more c.in_ok-next.ensures.left c.loop-turn.invariant.so_far;
+      so_far = met_turn net c.args.holds.now n m c.loop-turn.next c.in_ok-next.next c.loop-turn.points.items
+          c.meet.new.points.items (met_from net c.args.holds.now c.most_moves-most.result (Some net.out)) more
+          c.in_ok-next.ensures.left c.loop-turn.invariant.so_far;
     }

@@ -4,11 +4,16 @@ use Rattle.net_tree.specs.Known.{IsShort, known_at, known_or}
 use Rattle.net_tree.specs.Seeking.{branch_of, standing_of, AreFew, seek, start}
 use Rattle.net_tree.proofs.place.places_known.Given as goal
 
--- what is known of a register or a mux, or else what is found in the entries that are left, is what is found in all
+-- what is known of a register or a mux, or else what is found in the entries that are left, is what is found
+-- in all
 abbrev pub invariant-loop-at : goal.invariant-loop-at
 invariant-loop-at l =
     AreFew l.seeker.levels
     × All IsShort l.regs.items
     × All IsShort l.muxes.items
-    × ((r : ℕ) → r < length l.regs.items → known_or (known_at l.regs.items r) (map branch_of (seek l.at (drop l.at l.entries) (standing_of l.seeker) (Reg r))) ≡ map branch_of (seek 0 l.entries start (Reg r)))
-    × ((m : ℕ) → m < length l.muxes.items → known_or (known_at l.muxes.items m) (map branch_of (seek l.at (drop l.at l.entries) (standing_of l.seeker) (Mux m))) ≡ map branch_of (seek 0 l.entries start (Mux m)))
+    × ((r : ℕ) → r < length l.regs.items → known_or (known_at l.regs.items r)
+    (map branch_of (seek l.at (drop l.at l.entries) (standing_of l.seeker) (Reg r)))
+    ≡ map branch_of (seek 0 l.entries start (Reg r)))
+    × ((m : ℕ) → m < length l.muxes.items → known_or (known_at l.muxes.items m)
+    (map branch_of (seek l.at (drop l.at l.entries) (standing_of l.seeker) (Mux m)))
+    ≡ map branch_of (seek 0 l.entries start (Mux m)))

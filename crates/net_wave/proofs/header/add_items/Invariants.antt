@@ -7,6 +7,7 @@ abbrev pub invariant-loop-item : goal.invariant-loop-item
 invariant-loop-item l =
     let models = map seen_model l.models.items in
     record {
-      text : l.piece ++ items_text l.net l.device models l.number (drop l.item-index l.items) ≡ l.fn.piece ++ items_text l.net l.device models 1 l.items;
+      text : l.piece ++ items_text l.net l.device models l.number (drop l.item-index l.items)
+          ≡ l.fn.piece ++ items_text l.net l.device models 1 l.items;
       few : l.number ≤ l.item-index + 1;
     }

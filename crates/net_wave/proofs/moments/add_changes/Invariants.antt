@@ -15,5 +15,6 @@ invariant-loop-i l =
     let now = values (chip_of b) (map seen_model l.scene.models.now.items) l.vars l.scene.pins b.state in
     record {
       told : told_of l.told.items ≡ take l.i now ++ drop l.i (told_of l.fn.told.items);
-      text : l.piece ≡ l.fn.piece ++ flat_map change_text (up_to (later_at l.first (told_of l.fn.told.items) now) l.i);
+      text : l.piece
+          ≡ l.fn.piece ++ flat_map change_text (up_to (later_at l.first (told_of l.fn.told.items) now) l.i);
     }

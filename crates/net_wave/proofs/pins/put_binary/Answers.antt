@@ -19,7 +19,8 @@ loop-left-init c =
       size = length-set line 32 d ∙ c.told-line;
       small = c.ranges.number.fits;
       here = get_or-set_at line 32 32 d 0 refl (omega (arith, c.told-line));
-      text = ap (λ (l : List ℕ). trimmed (number_digits 32 c.args.number) ++ l) (sym (drop-set-lt 33 line 32 d (omega arith)));
+      text = ap (λ (l : List ℕ). trimmed (number_digits 32 c.args.number) ++ l)
+          (sym (drop-set-lt 33 line 32 d (omega arith)));
     }
 
 pub loop-left-preserved : goal.loop-left-preserved
@@ -40,10 +41,12 @@ loop-left-preserved c =
       size = length-set line (i - 1) d ∙ size;
       small = put_small left (left / 2) i (i - 1) place h.small refl;
       here = get_or-set_at line (i - 1) (i - 1) d 0 refl (omega (arith, h.high, size));
-      text = put_next (binary c.args.number ++ drop 33 c.args.line.now) line _ left i (i - 1) d (left / 2) place (omega (arith, h.high, size)) more h.small h.here refl refl refl h.text;
+      text = put_next (binary c.args.number ++ drop 33 c.args.line.now) line _ left i (i - 1) d
+          (left / 2) place (omega (arith, h.high, size)) more h.small h.here refl refl refl h.text;
     }
 
 pub returns-clause-text : goal.returns-clause-text
 returns-clause-text c =
     let h = c.loop-left.invariant in
-    put_all (binary c.args.number ++ drop 33 c.args.line.now) c.loop-left.line c.loop-left.left c.loop-left.i h.low (omega (arith, h.high, h.size)) (omega (arith, c.loop-left-test.false)) h.here h.text
+    put_all (binary c.args.number ++ drop 33 c.args.line.now) c.loop-left.line c.loop-left.left c.loop-left.i
+    h.low (omega (arith, h.high, h.size)) (omega (arith, c.loop-left-test.false)) h.here h.text

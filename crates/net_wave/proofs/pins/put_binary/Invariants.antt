@@ -12,7 +12,8 @@ invariant-loop-left l =
       size : length l.line ≡ 36;
       small : l.left < 2 ^ l.i;
       here : get_or l.line l.i 0 ≡ 48 + l.left % 2;
-      text : binary l.number ++ drop 33 l.fn.line ≡ trimmed (number_digits l.i l.left) ++ drop (l.i + 1) l.line;
+      text : binary l.number ++ drop 33 l.fn.line
+          ≡ trimmed (number_digits l.i l.left) ++ drop (l.i + 1) l.line;
     }
 
 abbrev pub decreases-loop-left : goal.decreases-loop-left

@@ -13,7 +13,8 @@ invariant-loop-piece g l =
     record {
       playing : IsPlaying l.playing;
       differs : some_differs l.playing ≡ some_differs l.fn.playing;
-      front : AddsFront (with_piece (g.S.Shelf.files l.fn.shelf) l.name l.fn.piece) (with_piece (g.S.Shelf.files l.shelf) l.name l.piece) (left_text l.playing) (left_text l.fn.playing);
+      front : AddsFront (with_piece (g.S.Shelf.files l.fn.shelf) l.name l.fn.piece) (with_piece
+          (g.S.Shelf.files l.shelf) l.name l.piece) (left_text l.playing) (left_text l.fn.playing);
       there : IsThere (g.S.Shelf.files l.shelf) l.name;
       others : OthersStay (g.S.Shelf.files l.fn.shelf) (g.S.Shelf.files l.shelf) l.name;
       later : Later l.name (g.S.Shelf.store_faults l.fn.shelf) (g.S.Shelf.store_faults l.shelf);

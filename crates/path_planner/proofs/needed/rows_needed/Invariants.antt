@@ -9,6 +9,7 @@ abbrev pub invariant-loop-reg : goal.invariant-loop-reg
 invariant-loop-reg l =
     let place = λ (r : ℕ). place_of l.tree (point.Reg r) in
     record {
-      rows : l.rows.items ++ first_rows l.done.items (flat_map place (drop l.reg-index l.regs)) ≡ first_rows (replicate (length l.net.muxes.items) false) (flat_map place l.regs);
+      rows : l.rows.items ++ first_rows l.done.items (flat_map place (drop l.reg-index l.regs))
+          ≡ first_rows (replicate (length l.net.muxes.items) false) (flat_map place l.regs);
       long : length l.done.items ≡ length l.net.muxes.items;
     }

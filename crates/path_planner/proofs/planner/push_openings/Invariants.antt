@@ -18,7 +18,8 @@ invariant-opening l =
     record {
       can : CanOpen l.net form group l.now;
       opened : AreOpen l.net form group l.now (length l.plans.items);
-      so_far : (p : SeenGroup) (ps : List SeenGroup) → ArePlans l.net form group l.now (p ∷ ps) → ArePlans l.net form group l.fn.now (map seen_plan l.plans.items ++ p ∷ ps);
+      so_far : (p : SeenGroup) (ps : List SeenGroup) → ArePlans l.net form group l.now (p ∷ ps)
+          → ArePlans l.net form group l.fn.now (map seen_plan l.plans.items ++ p ∷ ps);
       path : paths.path l.net l.now ≡ Some l.route.items;
       room : HasRoom l.net l.route;
     }

@@ -10,7 +10,8 @@ returns-clause-few c =
     let net = c.args.net.now in
     let form = c.args.tree.now in
     let plans = map seen_plan c.push_on_route.new.plans.items in
-    let all = row_planned net form c.args.branch c.args.now.now plans c.requires.can c.in_ok-push_on_route.ensures.plans in
+    let all = row_planned net form c.args.branch c.args.now.now plans
+    c.requires.can c.in_ok-push_on_route.ensures.plans in
     let shallow = (c.requires.can.lawful c.args.branch.mux c.requires.can.there.mux).shallow in
     omega (arith, all.few, shallow, length-map c.push_on_route.new.plans.items seen_plan)
 

@@ -4,4 +4,5 @@ use Rattle.pdl_expand.specs.Expansion.{dotted}
 use Rattle.pdl_expand.proofs.indices.put_names.Given as goal
 
 abbrev pub invariant-loop-name : goal.invariant-loop-name
-invariant-loop-name l = l.text.items ++ dotted (map bytes_of (drop l.name-index l.names)) ≡ l.fn.text.items ++ dotted (map bytes_of l.names)
+invariant-loop-name l = l.text.items ++ dotted (map bytes_of (drop l.name-index l.names))
+    ≡ l.fn.text.items ++ dotted (map bytes_of l.names)

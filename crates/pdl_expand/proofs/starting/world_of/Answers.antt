@@ -6,4 +6,5 @@ use Rattle.pdl_expand.proofs.Paths.{paths_differ}
 use Rattle.pdl_expand.proofs.starting.world_of.Goals as goal
 
 pub dotted_paths-requires-clause-distinct : goal.dotted_paths-requires-clause-distinct
-dotted_paths-requires-clause-distinct c = subst (λ nodes. AreDistinct (dotted_paths (map cell_of nodes))) (sym c.as_slice.ensures) (paths_differ c.args.net.now c.requires.net)
+dotted_paths-requires-clause-distinct c = subst (λ nodes. AreDistinct (dotted_paths (map cell_of nodes)))
+    (sym c.as_slice.ensures) (paths_differ c.args.net.now c.requires.net)

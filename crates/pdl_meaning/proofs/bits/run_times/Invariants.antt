@@ -14,7 +14,10 @@ abbrev pub invariant-loop : goal.invariant-loop
 invariant-loop l =
     record {
       shown : map (λ r. r.inputs) l.runners ≡ map (λ r. r.inputs) l.fn.runners;
-      state : (net : Net) (holds : Holds) (reads : List (ReadBit × Bool)) → AreRunning net l.models.items holds l.fn.runners
-          → run_cycles count_log net (machines_of l.models.items) (l.cycles - l.counter) (direct_at holds (insts_of l.runners) reads)
-          ≡ run_cycles count_log net (machines_of l.models.items) l.cycles (direct_at holds (insts_of l.fn.runners) reads);
+      state : (net : Net) (holds : Holds) (reads : List (ReadBit × Bool))
+          → AreRunning net l.models.items holds l.fn.runners
+          → run_cycles count_log net (machines_of l.models.items) (l.cycles - l.counter)
+          (direct_at holds (insts_of l.runners) reads)
+          ≡ run_cycles count_log net (machines_of l.models.items) l.cycles
+          (direct_at holds (insts_of l.fn.runners) reads);
     }

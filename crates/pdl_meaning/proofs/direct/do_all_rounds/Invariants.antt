@@ -15,6 +15,8 @@ invariant-loop-group l =
       net : l.values.net ≡ l.fn.values.net;
       models : l.values.models ≡ l.fn.values.models;
       room : reads_of (map seen_group (drop l.group-index l.rounds)) ≤ l.reads.spare;
-      state : do_rounds count_log l.fn.values.net machines (with_reads l.values l.reads.items) (map seen_group (drop l.group-index l.rounds))
-          ≡ do_rounds count_log l.fn.values.net machines (with_reads l.fn.values l.fn.reads.items) (map seen_group l.rounds);
+      state : do_rounds count_log l.fn.values.net machines (with_reads l.values l.reads.items)
+          (map seen_group (drop l.group-index l.rounds))
+          ≡ do_rounds count_log l.fn.values.net machines
+          (with_reads l.fn.values l.fn.reads.items) (map seen_group l.rounds);
     }

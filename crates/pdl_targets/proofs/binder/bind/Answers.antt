@@ -11,7 +11,9 @@ pub returns-in-Write-clause-answer : goal.returns-in-Write-clause-answer
 returns-in-Write-clause-answer c =
     let step = c.args.step.now in
     let P : Deed → Type 0 =
-    λ d. Binds (feed c.args.net.now (places_in c.args.tree.now) (seen_gathered c.args.gathered.now) (record { at = step.at; node = step.node; what = seen_deed d })) (seen_gathered c.write.new.gathered) c.write.result in
+    λ d. Binds (feed c.args.net.now (places_in c.args.tree.now) (seen_gathered c.args.gathered.now)
+    (record { at = step.at; node = step.node; what = seen_deed d }))
+    (seen_gathered c.write.new.gathered) c.write.result in
     subst P (sym c.in-Write.is) c.write.ensures.answer
 
 pub returns-in-Apply-clause-kept : goal.returns-in-Apply-clause-kept

@@ -7,5 +7,7 @@ pub write-requires-clause-bits : goal.write-requires-clause-bits
 write-requires-clause-bits c =
     let target = seen_target c.args.target.now in
     let value = seen_value c.args.value.now in
-    written_there c.args.net.now (write_bits c.args.net.now c.args.at c.args.node target value) c.in_ok-writes.writes.items c.as_slice.result.now
-    (c.bits_are_of_the_network.ensures.writes c.args.net.now c.args.at c.args.node target value c.requires.net) c.in_ok-writes.ensures c.as_slice.ensures
+    written_there c.args.net.now (write_bits c.args.net.now c.args.at c.args.node target value)
+    c.in_ok-writes.writes.items c.as_slice.result.now
+    (c.bits_are_of_the_network.ensures.writes c.args.net.now c.args.at c.args.node target value
+    c.requires.net) c.in_ok-writes.ensures c.as_slice.ensures

@@ -6,4 +6,6 @@ use Rattle.pdl_targets.specs.Captors.{captured}
 use Rattle.pdl_targets.proofs.captors.add_register.Given as goal
 
 abbrev pub invariant-loop-pos : goal.invariant-loop-pos
-invariant-loop-pos l = (s : Sig) → or_else (captured l.slots.items s) (capturing l.reg l.pos (drop l.pos l.captures) s) ≡ or_else (captured l.fn.slots.items s) (capturing l.reg 0 l.captures s)
+invariant-loop-pos l = (s : Sig)
+    → or_else (captured l.slots.items s) (capturing l.reg l.pos (drop l.pos l.captures) s)
+    ≡ or_else (captured l.fn.slots.items s) (capturing l.reg 0 l.captures s)

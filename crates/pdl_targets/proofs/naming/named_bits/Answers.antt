@@ -6,4 +6,5 @@ pub returns-clause-wide : goal.returns-clause-wide
 returns-clause-wide c = value_width _ _ _ c.in_ok-values.values c.in_ok-values.ensures
 
 pub returns-clause-few : goal.returns-clause-few
-returns-clause-few c = let few = c.in_ok-thing.ensures.formed.bits_within_limit in omega (arith, c.in_ok-spots.ensures.few, few)
+returns-clause-few c =
+    let few = c.in_ok-thing.ensures.formed.bits_within_limit in omega (arith, c.in_ok-spots.ensures.few, few)

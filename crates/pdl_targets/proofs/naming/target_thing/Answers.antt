@@ -9,4 +9,5 @@ pub returns-in-Some-clause-formed : goal.returns-in-Some-clause-formed
 returns-in-Some-clause-formed c =
     let net = c.args.net.now in
     thing_formed net c.requires.net c.args.node (seen_target c.args.target.now).path c.in-Some.thing.now
-    (ap (option_map (λ t. t.now)) (sym c.in-Some.is) ∙ c.in_ok-thing.ensures ∙ ap (λ l. thing_at net c.args.node (map bytes_of l)) c.as_slice.ensures)
+    (ap (option_map (λ t. t.now)) (sym c.in-Some.is) ∙ c.in_ok-thing.ensures
+    ∙ ap (λ l. thing_at net c.args.node (map bytes_of l)) c.as_slice.ensures)

@@ -11,5 +11,7 @@ returns-clause-numbered c =
     let P : List BitId → Type 0 = AreNumbered c.args.net.now c.mark_next.new.marks in
     let rs = c.args.registers.now.items in
     subst P (sym (ap first_bits c.push_reserved.ensures.items ∙ bits_more first_bit rs c.args.bit.reg))
-    (c.mark_next.ensures.numbered (first_bits rs) c.requires.numbered (length-map rs first_bit ∙ sym c.len.ensures)
-    (registers_differ rs c.args.bit.reg (sym (c.if-is_in.ensures ∙ ap (λ l. is_in l c.args.bit.reg) c.as_slice.ensures))))
+    (c.mark_next.ensures.numbered (first_bits rs) c.requires.numbered
+    (length-map rs first_bit ∙ sym c.len.ensures)
+    (registers_differ rs c.args.bit.reg
+    (sym (c.if-is_in.ensures ∙ ap (λ l. is_in l c.args.bit.reg) c.as_slice.ensures))))

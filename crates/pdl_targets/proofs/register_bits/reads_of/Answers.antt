@@ -12,8 +12,15 @@ pub returns-in-Err : goal.returns-in-Err
 returns-in-Err c =
     let net = c.args.net.now in
     let values = tern_bits c.args.values.now in
-    read_refused net c.args.at c.args.read c.args.spots.now values c.loop-i.i (get_or c.args.spots.now c.loop-i.i first_spot) c.in-Some.value c.compared-picked.result c.loop-i.reads.items (reads_of net c.args.at c.args.read 0 c.args.spots.now values) c.in-Err.fault
-    (record { below = c.loop-i-test.true; many = tern_length c.args.values.now ∙ c.requires.wide; spot_is = refl; value_is = c.in-Some.ensures })
+    read_refused net c.args.at c.args.read c.args.spots.now values c.loop-i.i
+    (get_or c.args.spots.now c.loop-i.i first_spot) c.in-Some.value c.compared-picked.result
+    c.loop-i.reads.items (reads_of net c.args.at c.args.read 0 c.args.spots.now values) c.in-Err.fault
+    (record {
+      below = c.loop-i-test.true;
+      many = tern_length c.args.values.now ∙ c.requires.wide;
+      spot_is = refl;
+      value_is = c.in-Some.ensures;
+    })
     c.compared-picked.ensures c.in-Err.ensures c.loop-i.invariant
 
 pub loop-i-preserved : goal.loop-i-preserved
@@ -24,11 +31,25 @@ loop-i-preserved c =
     let items : Listed ReadBit → List ReadBit = λ l. l.items in
     elim c.match-value_at.branch [
       | in-Some+in-Ok+in_ok-push-in-Ok w ↦
-          read_next net c.args.at c.args.read c.args.spots.now values c.loop-i.i (get_or c.args.spots.now c.loop-i.i first_spot) w.in-Some.value w.compared-picked.result w.in-Ok.bit c.loop-i.reads.items c.match-value_at.reads.items all
-          (record { below = c.loop-i-test.true; many = tern_length c.args.values.now ∙ c.requires.wide; spot_is = refl; value_is = w.in-Some.ensures })
-          w.compared-picked.ensures w.in-Ok.ensures (ap items w.reads-is ∙ w.in_ok-push-in-Ok.ensures.ok) c.loop-i.invariant
+          read_next net c.args.at c.args.read c.args.spots.now values c.loop-i.i
+          (get_or c.args.spots.now c.loop-i.i first_spot) w.in-Some.value w.compared-picked.result
+          w.in-Ok.bit c.loop-i.reads.items c.match-value_at.reads.items all
+          (record {
+            below = c.loop-i-test.true;
+            many = tern_length c.args.values.now ∙ c.requires.wide;
+            spot_is = refl;
+            value_is = w.in-Some.ensures;
+          })
+          w.compared-picked.ensures w.in-Ok.ensures
+          (ap items w.reads-is ∙ w.in_ok-push-in-Ok.ensures.ok) c.loop-i.invariant
       | in-None w ↦
-          not_read net c.args.at c.args.read c.args.spots.now values c.loop-i.i (get_or c.args.spots.now c.loop-i.i first_spot) c.loop-i.reads.items c.match-value_at.reads.items all
-          (record { below = c.loop-i-test.true; many = tern_length c.args.values.now ∙ c.requires.wide; spot_is = refl; value_is = w.in-None.ensures })
+          not_read net c.args.at c.args.read c.args.spots.now values c.loop-i.i (get_or c.args.spots.now
+          c.loop-i.i first_spot) c.loop-i.reads.items c.match-value_at.reads.items all
+          (record {
+            below = c.loop-i-test.true;
+            many = tern_length c.args.values.now ∙ c.requires.wide;
+            spot_is = refl;
+            value_is = w.in-None.ensures;
+          })
           (ap items w.reads-is) c.loop-i.invariant
     ]

@@ -12,8 +12,15 @@ pub returns-in-Err : goal.returns-in-Err
 returns-in-Err c =
     let net = c.args.net.now in
     let values = tern_bits c.args.values.now in
-    write_refused net c.args.at c.args.spots.now values c.loop-i.i (get_or c.args.spots.now c.loop-i.i first_spot) c.in-Some.value c.written.result c.loop-i.writes.items (writes_of net c.args.at c.args.spots.now values) c.in-Err.fault
-    (record { below = c.loop-i-test.true; many = tern_length c.args.values.now ∙ c.requires.wide; spot_is = refl; value_is = c.in-Some.ensures })
+    write_refused net c.args.at c.args.spots.now values c.loop-i.i
+    (get_or c.args.spots.now c.loop-i.i first_spot) c.in-Some.value c.written.result c.loop-i.writes.items
+    (writes_of net c.args.at c.args.spots.now values) c.in-Err.fault
+    (record {
+      below = c.loop-i-test.true;
+      many = tern_length c.args.values.now ∙ c.requires.wide;
+      spot_is = refl;
+      value_is = c.in-Some.ensures;
+    })
     c.written.ensures c.in-Err.ensures c.loop-i.invariant
 
 pub loop-i-preserved : goal.loop-i-preserved
@@ -24,11 +31,25 @@ loop-i-preserved c =
     let items : Listed WriteBit → List WriteBit = λ l. l.items in
     elim c.match-value_at.branch [
       | in-Some+in-Ok+in_ok-push-in-Ok w ↦
-          written_next net c.args.at c.args.spots.now values c.loop-i.i (get_or c.args.spots.now c.loop-i.i first_spot) w.in-Some.value w.written.result w.in-Ok.write c.loop-i.writes.items c.match-value_at.writes.items all
-          (record { below = c.loop-i-test.true; many = tern_length c.args.values.now ∙ c.requires.wide; spot_is = refl; value_is = w.in-Some.ensures })
-          w.written.ensures w.in-Ok.ensures (ap items w.writes-is ∙ w.in_ok-push-in-Ok.ensures.ok) c.loop-i.invariant
+          written_next net c.args.at c.args.spots.now values c.loop-i.i
+          (get_or c.args.spots.now c.loop-i.i first_spot) w.in-Some.value w.written.result w.in-Ok.write
+          c.loop-i.writes.items c.match-value_at.writes.items all
+          (record {
+            below = c.loop-i-test.true;
+            many = tern_length c.args.values.now ∙ c.requires.wide;
+            spot_is = refl;
+            value_is = w.in-Some.ensures;
+          })
+          w.written.ensures w.in-Ok.ensures
+          (ap items w.writes-is ∙ w.in_ok-push-in-Ok.ensures.ok) c.loop-i.invariant
       | in-None w ↦
-          skipped net c.args.at c.args.spots.now values c.loop-i.i (get_or c.args.spots.now c.loop-i.i first_spot) c.loop-i.writes.items c.match-value_at.writes.items all
-          (record { below = c.loop-i-test.true; many = tern_length c.args.values.now ∙ c.requires.wide; spot_is = refl; value_is = w.in-None.ensures })
+          skipped net c.args.at c.args.spots.now values c.loop-i.i (get_or c.args.spots.now c.loop-i.i
+          first_spot) c.loop-i.writes.items c.match-value_at.writes.items all
+          (record {
+            below = c.loop-i-test.true;
+            many = tern_length c.args.values.now ∙ c.requires.wide;
+            spot_is = refl;
+            value_is = w.in-None.ensures;
+          })
           (ap items w.writes-is) c.loop-i.invariant
     ]

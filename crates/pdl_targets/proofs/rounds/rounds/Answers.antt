@@ -22,4 +22,6 @@ loop-register-preserved c =
 pub returns : goal.returns
 returns c =
     let places = places_in c.args.tree.now in
-    c.loop-register.invariant.put ∙ ap (put_all places []) (take_all c.loop-register.register-index c.args.registers.now c.loop-register-test.false) ∙ put_all_is places c.args.registers.now
+    c.loop-register.invariant.put ∙ ap (put_all places [])
+    (take_all c.loop-register.register-index c.args.registers.now c.loop-register-test.false)
+    ∙ put_all_is places c.args.registers.now

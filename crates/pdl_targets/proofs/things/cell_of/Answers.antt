@@ -11,10 +11,12 @@ returns c =
     let cells = cells_of c.args.net.now in
     let own = (cell cells c.args.node).path in
     let front = but_last (map bytes_of c.args.path.now) in
-    let here = c.in_ok-key.ensures ∙ ap (λ l. l ++ dotted (map bytes_of c.path_of.result.now)) c.new.ensures ∙ ap dotted c.path_of.ensures in
+    let here = c.in_ok-key.ensures ∙ ap (λ l. l ++ dotted (map bytes_of c.path_of.result.now)) c.new.ensures
+    ∙ ap dotted c.path_of.ensures in
     let key =
     c.in_ok-key-2.ensures
     ∙ ap (λ l. l ++ dotted (map bytes_of c.names_before.result.now)) here
     ∙ ap (λ l. dotted own ++ dotted l) c.names_before.ensures
     ∙ sym (dotted-append own front) in
-    c.find.ensures.number ∙ ap (λ l. number_in l c.in_ok-key-2.key.items) c.requires.cells ∙ ap (number_in (dotted_paths cells)) key
+    c.find.ensures.number ∙ ap (λ l. number_in l c.in_ok-key-2.key.items) c.requires.cells
+    ∙ ap (number_in (dotted_paths cells)) key

@@ -14,10 +14,13 @@ returns-in_err-put_entry_if-clause-part g c =
     let more : d.depth - i ≡ suc m = omega arith in
     let next : i + 1 ≡ suc i = omega arith in
     let all = entries_from d.name.items d.width c.args.numbers.now 0 d.depth in
-    let here = entries_next d.name.items d.width c.args.numbers.now i (i + 1) (d.depth - i) m number more next c.entry_at.ensures in
+    let here = entries_next d.name.items d.width c.args.numbers.now i (i + 1)
+    (d.depth - i) m number more next c.entry_at.ensures in
     at_refusal c.from_residual.result
-    (front_part (entry_if d.name.items d.width i number) (entries_from d.name.items d.width c.args.numbers.now (i + 1) m)
-    (subst (λ (rest : List ℕ). AddsFront (g.K.Sink.taken c.args.k.now) (g.K.Sink.taken c.loop-i.k) rest all) here c.loop-i.invariant.front) c.in_err-put_entry_if.ensures.part)
+    (front_part (entry_if d.name.items d.width i number)
+    (entries_from d.name.items d.width c.args.numbers.now (i + 1) m)
+    (subst (λ (rest : List ℕ). AddsFront (g.K.Sink.taken c.args.k.now) (g.K.Sink.taken c.loop-i.k) rest all)
+    here c.loop-i.invariant.front) c.in_err-put_entry_if.ensures.part)
 
 pub loop-i-preserved : goal.loop-i-preserved
 loop-i-preserved g c =
@@ -28,9 +31,12 @@ loop-i-preserved g c =
     let more : d.depth - i ≡ suc m = omega arith in
     let next : i + 1 ≡ suc i = omega arith in
     let all = entries_from d.name.items d.width c.args.numbers.now 0 d.depth in
-    let here = entries_next d.name.items d.width c.args.numbers.now i (i + 1) (d.depth - i) m number more next c.entry_at.ensures in
+    let here = entries_next d.name.items d.width c.args.numbers.now i (i + 1)
+    (d.depth - i) m number more next c.entry_at.ensures in
     record {
-      front = front_next (entry_if d.name.items d.width i number) (entries_from d.name.items d.width c.args.numbers.now (i + 1) m)
-          (subst (λ (rest : List ℕ). AddsFront (g.K.Sink.taken c.args.k.now) (g.K.Sink.taken c.loop-i.k) rest all) here c.loop-i.invariant.front) c.in_ok-put_entry_if.ensures.whole;
+      front = front_next (entry_if d.name.items d.width i number)
+          (entries_from d.name.items d.width c.args.numbers.now (i + 1) m)
+          (subst (λ (rest : List ℕ). AddsFront (g.K.Sink.taken c.args.k.now) (g.K.Sink.taken c.loop-i.k) rest
+          all) here c.loop-i.invariant.front) c.in_ok-put_entry_if.ensures.whole;
       later = omega (arith, c.put_entry_if.ensures.cause.later);
     }

@@ -7,6 +7,8 @@ abbrev pub invariant-loop-i : goal.invariant-loop-i
 invariant-loop-i g l =
     let d = l.memory in
     record {
-      front : AddsFront (g.K.Sink.taken l.fn.k) (g.K.Sink.taken l.k) (entries_from d.name.items d.width l.numbers l.i (d.depth - l.i)) (entries_from d.name.items d.width l.numbers 0 d.depth);
+      front : AddsFront (g.K.Sink.taken l.fn.k) (g.K.Sink.taken l.k)
+          (entries_from d.name.items d.width l.numbers l.i (d.depth - l.i))
+          (entries_from d.name.items d.width l.numbers 0 d.depth);
       later : g.K.Sink.faults l.fn.k ≤ g.K.Sink.faults l.k;
     }

@@ -14,10 +14,12 @@ returns-in_err-put_register-clause-part g c =
     let m = c.register_count-count.result - (r + 1) in
     let more : n ≡ suc m = omega arith in
     let next : r + 1 ≡ suc r = omega arith in
-    let here : registers_from net holds r n ≡ register_text net holds r ++ registers_from net holds (r + 1) m = registers_next net holds r (r + 1) n m more next in
+    let here : registers_from net holds r n ≡ register_text net holds r
+    ++ registers_from net holds (r + 1) m = registers_next net holds r (r + 1) n m more next in
     at_refusal c.from_residual.result
     (front_part (register_text net holds r) (registers_from net holds (r + 1) m)
-    (subst (λ (rest : List ℕ). AddsFront (g.K.Sink.taken c.args.k.now) (g.K.Sink.taken c.loop-reg.k) rest (registers_text net holds)) here c.loop-reg.invariant.front) c.in_err-put_register.ensures.part)
+    (subst (λ (rest : List ℕ). AddsFront (g.K.Sink.taken c.args.k.now) (g.K.Sink.taken c.loop-reg.k) rest
+    (registers_text net holds)) here c.loop-reg.invariant.front) c.in_err-put_register.ensures.part)
 
 pub loop-reg-preserved : goal.loop-reg-preserved
 loop-reg-preserved g c =
@@ -28,9 +30,12 @@ loop-reg-preserved g c =
     let m = c.register_count-count.result - (r + 1) in
     let more : n ≡ suc m = omega arith in
     let next : r + 1 ≡ suc r = omega arith in
-    let here : registers_from net holds r n ≡ register_text net holds r ++ registers_from net holds (r + 1) m = registers_next net holds r (r + 1) n m more next in
+    let here : registers_from net holds r n ≡ register_text net holds r
+    ++ registers_from net holds (r + 1) m = registers_next net holds r (r + 1) n m more next in
     record {
       front = front_next (register_text net holds r) (registers_from net holds (r + 1) m)
-          (subst (λ (rest : List ℕ). AddsFront (g.K.Sink.taken c.args.k.now) (g.K.Sink.taken c.loop-reg.k) rest (registers_text net holds)) here c.loop-reg.invariant.front) c.in_ok-put_register.ensures.whole;
+          (subst (λ (rest : List ℕ). AddsFront (g.K.Sink.taken c.args.k.now)
+          (g.K.Sink.taken c.loop-reg.k) rest (registers_text net holds)) here c.loop-reg.invariant.front)
+          c.in_ok-put_register.ensures.whole;
       later = omega (arith, c.put_register.ensures.cause.later);
     }

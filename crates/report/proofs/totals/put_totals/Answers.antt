@@ -4,7 +4,9 @@ use Rattle.report.specs.Totalled.{totals_text}
 use Rattle.report.proofs.totals.put_totals.Goals as goal
 
 pub returns-in-Made-clause-whole : goal.returns-in-Made-clause-whole
-returns-in-Made-clause-whole g c = whole_as c.put_made.result _ _ (sym (ap totals_text c.in-Made.is)) c.put_made.ensures.whole
+returns-in-Made-clause-whole g c =
+    whole_as c.put_made.result _ _ (sym (ap totals_text c.in-Made.is)) c.put_made.ensures.whole
 
 pub returns-in-Made-clause-part : goal.returns-in-Made-clause-part
-returns-in-Made-clause-part g c = part_as c.put_made.result _ _ (sym (ap totals_text c.in-Made.is)) c.put_made.ensures.part
+returns-in-Made-clause-part g c =
+    part_as c.put_made.result _ _ (sym (ap totals_text c.in-Made.is)) c.put_made.ensures.part

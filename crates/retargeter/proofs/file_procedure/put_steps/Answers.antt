@@ -15,59 +15,92 @@ pub returns-in_err-step-clause-part : goal.returns-in_err-step-clause-part
 returns-in_err-step-clause-part g c =
     let files = g.S.Shelf.files c.loop-piece.shelf in
     at_refusal _
-    (is_part c.args.session.now c.args.steps.now.steps (with_piece (g.S.Shelf.files c.args.shelf.now) c.args.name.now c.args.piece) c.args.name.now c.loop-piece.session c.loop-piece.steps.steps files c.loop-piece.piece c.loop-piece.invariant.go files
+    (is_part c.args.session.now c.args.steps.now.steps
+    (with_piece (g.S.Shelf.files c.args.shelf.now) c.args.name.now c.args.piece) c.args.name.now
+    c.loop-piece.session c.loop-piece.steps.steps files c.loop-piece.piece c.loop-piece.invariant.go files
     (front_stays files c.args.name.now c.loop-piece.piece c.loop-piece.invariant.there))
 
 pub returns-in_err-put_step-clause-part : goal.returns-in_err-put_step-clause-part
 returns-in_err-put_step-clause-part g c =
     let files = g.S.Shelf.files c.loop-piece.shelf in
     at_refusal _
-    (is_part c.args.session.now c.args.steps.now.steps (with_piece (g.S.Shelf.files c.args.shelf.now) c.args.name.now c.args.piece) c.args.name.now c.loop-piece.session c.loop-piece.steps.steps files c.loop-piece.piece c.loop-piece.invariant.go files
+    (is_part c.args.session.now c.args.steps.now.steps
+    (with_piece (g.S.Shelf.files c.args.shelf.now) c.args.name.now c.args.piece) c.args.name.now
+    c.loop-piece.session c.loop-piece.steps.steps files c.loop-piece.piece c.loop-piece.invariant.go files
     (front_stays files c.args.name.now c.loop-piece.piece c.loop-piece.invariant.there))
 
 pub returns-in_err-piece-clause-part : goal.returns-in_err-piece-clause-part
 returns-in_err-piece-clause-part g c =
     let files = g.S.Shelf.files c.loop-piece.shelf in
     let old = with_piece (g.S.Shelf.files c.args.shelf.now) c.args.name.now c.args.piece in
-    let given = subst (λ o. MatchOption o (c.loop-piece.steps ≡ nothing_left) (λ s. c.loop-piece.steps ≡ given_first_bit (seen_step s) c.next_step.new.steps)) c.in-Some.is c.in_ok-step.ensures.given in
+    let given = subst (λ o. MatchOption o (c.loop-piece.steps ≡ nothing_left) (λ s. c.loop-piece.steps
+    ≡ given_first_bit (seen_step s) c.next_step.new.steps)) c.in-Some.is c.in_ok-step.ensures.given in
     let next = ap (λ (b : BitStepsOf). b.steps) given in
     let go =
-    one_more c.args.session.now c.args.steps.now.steps old c.args.name.now c.loop-piece.session c.loop-piece.steps.steps files c.loop-piece.piece c.loop-piece.invariant.go
-    (seen_step c.in-Some.step) c.next_step.new.steps.steps c.put_step.new.self c.put_step.new.k c.put_step.new.k files next c.in_ok-put_step.ensures.whole c.in_ok-put_step.ensures.after refl in
+    one_more c.args.session.now c.args.steps.now.steps old c.args.name.now c.loop-piece.session
+    c.loop-piece.steps.steps files c.loop-piece.piece c.loop-piece.invariant.go
+    (seen_step c.in-Some.step) c.next_step.new.steps.steps c.put_step.new.self c.put_step.new.k
+    c.put_step.new.k files next c.in_ok-put_step.ensures.whole c.in_ok-put_step.ensures.after refl in
     at_refusal _
-    (is_part c.args.session.now c.args.steps.now.steps old c.args.name.now c.put_step.new.self c.next_step.new.steps.steps files c.put_step.new.k go (g.S.Shelf.files c.next_piece.new.shelf) c.in_err-piece.ensures.part)
+    (is_part c.args.session.now c.args.steps.now.steps old c.args.name.now c.put_step.new.self
+    c.next_step.new.steps.steps files c.put_step.new.k go
+    (g.S.Shelf.files c.next_piece.new.shelf) c.in_err-piece.ensures.part)
 
 pub loop-piece-preserved-in_ok-piece : goal.loop-piece-preserved-in_ok-piece
 loop-piece-preserved-in_ok-piece g c =
-    let given = subst (λ o. MatchOption o (c.loop-piece.steps ≡ nothing_left) (λ s. c.loop-piece.steps ≡ given_first_bit (seen_step s) c.next_step.new.steps)) c.in-Some.is c.in_ok-step.ensures.given in
+    let given = subst (λ o. MatchOption o (c.loop-piece.steps ≡ nothing_left) (λ s. c.loop-piece.steps
+    ≡ given_first_bit (seen_step s) c.next_step.new.steps)) c.in-Some.is c.in_ok-step.ensures.given in
     let next = ap (λ (b : BitStepsOf). b.steps) given in
     record {
       go =
-          one_more c.args.session.now c.args.steps.now.steps (with_piece (g.S.Shelf.files c.args.shelf.now) c.args.name.now c.args.piece) c.args.name.now c.loop-piece.session c.loop-piece.steps.steps (g.S.Shelf.files c.loop-piece.shelf) c.loop-piece.piece c.loop-piece.invariant.go
-          (seen_step c.in-Some.step) c.next_step.new.steps.steps c.put_step.new.self c.put_step.new.k c.in_ok-piece.piece (g.S.Shelf.files c.next_piece.new.shelf) next c.in_ok-put_step.ensures.whole c.in_ok-put_step.ensures.after c.in_ok-piece.ensures.whole;
+          one_more c.args.session.now c.args.steps.now.steps (with_piece (g.S.Shelf.files c.args.shelf.now)
+          c.args.name.now c.args.piece) c.args.name.now c.loop-piece.session c.loop-piece.steps.steps
+          (g.S.Shelf.files c.loop-piece.shelf) c.loop-piece.piece c.loop-piece.invariant.go
+          (seen_step c.in-Some.step) c.next_step.new.steps.steps c.put_step.new.self c.put_step.new.k
+          c.in_ok-piece.piece (g.S.Shelf.files c.next_piece.new.shelf) next c.in_ok-put_step.ensures.whole
+          c.in_ok-put_step.ensures.after c.in_ok-piece.ensures.whole;
       there = c.in_ok-piece.ensures.there;
-      plannable = plannable_later c.loop-piece.steps.steps c.next_step.new.steps.steps (seen_step c.in-Some.step) next c.loop-piece.session c.put_step.new.self c.put_step.ensures.plan c.in_ok-put_step.ensures.after c.loop-piece.invariant.plannable;
-      rounds = few_later c.loop-piece.steps.steps c.next_step.new.steps.steps (seen_step c.in-Some.step) next c.loop-piece.invariant.rounds;
-      few = few_steps c.loop-piece.steps.steps c.next_step.new.steps.steps (seen_step c.in-Some.step) next c.loop-piece.session c.put_step.new.self c.put_step.ensures.plan c.in_ok-put_step.ensures.after c.loop-piece.invariant.few;
+      plannable = plannable_later c.loop-piece.steps.steps c.next_step.new.steps.steps
+          (seen_step c.in-Some.step) next c.loop-piece.session c.put_step.new.self c.put_step.ensures.plan
+          c.in_ok-put_step.ensures.after c.loop-piece.invariant.plannable;
+      rounds = few_later c.loop-piece.steps.steps c.next_step.new.steps.steps
+          (seen_step c.in-Some.step) next c.loop-piece.invariant.rounds;
+      few = few_steps c.loop-piece.steps.steps c.next_step.new.steps.steps
+          (seen_step c.in-Some.step) next c.loop-piece.session c.put_step.new.self c.put_step.ensures.plan
+          c.in_ok-put_step.ensures.after c.loop-piece.invariant.few;
       others = λ other n. c.next_piece.ensures.others other n ∙ c.loop-piece.invariant.others other n;
-      later = one_later c.args.name.now (g.S.Shelf.store_faults c.args.shelf.now) (g.S.Shelf.store_faults c.loop-piece.shelf) (g.S.Shelf.store_faults c.next_piece.new.shelf) _ _ c.loop-piece.invariant.later c.next_piece.ensures.cause;
+      later = one_later c.args.name.now (g.S.Shelf.store_faults c.args.shelf.now)
+          (g.S.Shelf.store_faults c.loop-piece.shelf) (g.S.Shelf.store_faults c.next_piece.new.shelf) _ _
+          c.loop-piece.invariant.later c.next_piece.ensures.cause;
       loads = λ name. c.next_piece.ensures.loads name ∙ c.loop-piece.invariant.loads name;
     }
 
 pub loop-piece-preserved : goal.loop-piece-preserved
 loop-piece-preserved g c =
-    let given = subst (λ o. MatchOption o (c.loop-piece.steps ≡ nothing_left) (λ s. c.loop-piece.steps ≡ given_first_bit (seen_step s) c.next_step.new.steps)) c.in-Some.is c.in_ok-step.ensures.given in
+    let given = subst (λ o. MatchOption o (c.loop-piece.steps ≡ nothing_left) (λ s. c.loop-piece.steps
+    ≡ given_first_bit (seen_step s) c.next_step.new.steps)) c.in-Some.is c.in_ok-step.ensures.given in
     let next = ap (λ (b : BitStepsOf). b.steps) given in
     record {
       go =
-          one_more c.args.session.now c.args.steps.now.steps (with_piece (g.S.Shelf.files c.args.shelf.now) c.args.name.now c.args.piece) c.args.name.now c.loop-piece.session c.loop-piece.steps.steps (g.S.Shelf.files c.loop-piece.shelf) c.loop-piece.piece c.loop-piece.invariant.go
-          (seen_step c.in-Some.step) c.next_step.new.steps.steps c.put_step.new.self c.put_step.new.k c.in_ok-piece.piece (g.S.Shelf.files c.next_piece.new.shelf) next c.in_ok-put_step.ensures.whole c.in_ok-put_step.ensures.after c.in_ok-piece.ensures.whole;
+          one_more c.args.session.now c.args.steps.now.steps (with_piece (g.S.Shelf.files c.args.shelf.now)
+          c.args.name.now c.args.piece) c.args.name.now c.loop-piece.session c.loop-piece.steps.steps
+          (g.S.Shelf.files c.loop-piece.shelf) c.loop-piece.piece c.loop-piece.invariant.go
+          (seen_step c.in-Some.step) c.next_step.new.steps.steps c.put_step.new.self c.put_step.new.k
+          c.in_ok-piece.piece (g.S.Shelf.files c.next_piece.new.shelf) next c.in_ok-put_step.ensures.whole
+          c.in_ok-put_step.ensures.after c.in_ok-piece.ensures.whole;
       there = c.in_ok-piece.ensures.there;
-      plannable = plannable_later c.loop-piece.steps.steps c.next_step.new.steps.steps (seen_step c.in-Some.step) next c.loop-piece.session c.put_step.new.self c.put_step.ensures.plan c.in_ok-put_step.ensures.after c.loop-piece.invariant.plannable;
-      rounds = few_later c.loop-piece.steps.steps c.next_step.new.steps.steps (seen_step c.in-Some.step) next c.loop-piece.invariant.rounds;
-      few = few_steps c.loop-piece.steps.steps c.next_step.new.steps.steps (seen_step c.in-Some.step) next c.loop-piece.session c.put_step.new.self c.put_step.ensures.plan c.in_ok-put_step.ensures.after c.loop-piece.invariant.few;
+      plannable = plannable_later c.loop-piece.steps.steps c.next_step.new.steps.steps
+          (seen_step c.in-Some.step) next c.loop-piece.session c.put_step.new.self c.put_step.ensures.plan
+          c.in_ok-put_step.ensures.after c.loop-piece.invariant.plannable;
+      rounds = few_later c.loop-piece.steps.steps c.next_step.new.steps.steps
+          (seen_step c.in-Some.step) next c.loop-piece.invariant.rounds;
+      few = few_steps c.loop-piece.steps.steps c.next_step.new.steps.steps
+          (seen_step c.in-Some.step) next c.loop-piece.session c.put_step.new.self c.put_step.ensures.plan
+          c.in_ok-put_step.ensures.after c.loop-piece.invariant.few;
       others = λ other n. c.next_piece.ensures.others other n ∙ c.loop-piece.invariant.others other n;
-      later = one_later c.args.name.now (g.S.Shelf.store_faults c.args.shelf.now) (g.S.Shelf.store_faults c.loop-piece.shelf) (g.S.Shelf.store_faults c.next_piece.new.shelf) _ _ c.loop-piece.invariant.later c.next_piece.ensures.cause;
+      later = one_later c.args.name.now (g.S.Shelf.store_faults c.args.shelf.now)
+          (g.S.Shelf.store_faults c.loop-piece.shelf) (g.S.Shelf.store_faults c.next_piece.new.shelf) _ _
+          c.loop-piece.invariant.later c.next_piece.ensures.cause;
       loads = λ name. c.next_piece.ensures.loads name ∙ c.loop-piece.invariant.loads name;
     }
 
@@ -75,5 +108,8 @@ pub returns-clause-part : goal.returns-clause-part
 returns-clause-part g c =
     let files = g.S.Shelf.files c.loop-piece.shelf in
     on_err_weaker c.put_last_piece.result
-    (λ h. is_part c.args.session.now c.args.steps.now.steps (with_piece (g.S.Shelf.files c.args.shelf.now) c.args.name.now c.args.piece) c.args.name.now c.loop-piece.session c.loop-piece.steps.steps files c.loop-piece.piece c.loop-piece.invariant.go
-    (g.S.Shelf.files c.put_last_piece.new.shelf) (h c.loop-piece.invariant.there)) c.put_last_piece.ensures.part
+    (λ h. is_part c.args.session.now c.args.steps.now.steps
+    (with_piece (g.S.Shelf.files c.args.shelf.now) c.args.name.now c.args.piece) c.args.name.now
+    c.loop-piece.session c.loop-piece.steps.steps files c.loop-piece.piece c.loop-piece.invariant.go
+    (g.S.Shelf.files c.put_last_piece.new.shelf) (h c.loop-piece.invariant.there))
+    c.put_last_piece.ensures.part

@@ -13,7 +13,8 @@ use Rattle.retargeter.proofs.file_procedure.put_steps.Given as goal
 abbrev pub invariant-loop-piece : goal.invariant-loop-piece
 invariant-loop-piece g l =
     record {
-      go : Go l.fn.session l.fn.steps.steps (with_piece (g.S.Shelf.files l.fn.shelf) l.fn.name l.fn.piece) l.session l.steps.steps (with_piece (g.S.Shelf.files l.shelf) l.fn.name l.piece);
+      go : Go l.fn.session l.fn.steps.steps (with_piece (g.S.Shelf.files l.fn.shelf) l.fn.name l.fn.piece)
+          l.session l.steps.steps (with_piece (g.S.Shelf.files l.shelf) l.fn.name l.piece);
       there : IsThere (g.S.Shelf.files l.shelf) l.fn.name;
       plannable : All (StepIsPlannable l.session.net l.session.form) l.steps.steps;
       rounds : rounds_in l.steps.steps ≤ 4096;

@@ -9,7 +9,8 @@ use Rattle.retargeter.proofs.procedure.put_steps.Given as goal
 abbrev pub invariant-loop-step : goal.invariant-loop-step
 invariant-loop-step g l =
     record {
-      go : Go l.fn.session l.fn.steps.steps (g.K.Sink.taken l.fn.k) l.session l.steps.steps (g.K.Sink.taken l.k);
+      go : Go l.fn.session l.fn.steps.steps
+          (g.K.Sink.taken l.fn.k) l.session l.steps.steps (g.K.Sink.taken l.k);
       plannable : All (StepIsPlannable l.session.net l.session.form) l.steps.steps;
       rounds : rounds_in l.steps.steps ≤ 4096;
       few : l.session.applies + length l.steps.steps < 2 ^ 32;

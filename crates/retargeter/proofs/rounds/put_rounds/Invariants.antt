@@ -8,7 +8,8 @@ use Rattle.retargeter.proofs.rounds.put_rounds.Given as goal
 abbrev pub invariant-loop-group : goal.invariant-loop-group
 invariant-loop-group g l =
     record {
-      go : Go l.net l.tree l.apply l.fn.holds l.rounds (g.K.Sink.taken l.fn.k) l.group-index l.holds (g.K.Sink.taken l.k);
+      go : Go l.net l.tree l.apply l.fn.holds l.rounds
+          (g.K.Sink.taken l.fn.k) l.group-index l.holds (g.K.Sink.taken l.k);
       round : l.round ≡ suc l.group-index;
       scannable : IsScannable l.net l.holds;
       room : HasScanRoom l.net l.buffers;

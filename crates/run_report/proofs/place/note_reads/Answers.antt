@@ -14,5 +14,8 @@ loop-read-preserved c =
     let f = place_on c.args.net.now (reverse c.args.path.now) c.args.scan in
     let i = c.loop-read.read-index in
     let r = get_or c.args.reads.now i no_read in
-    let made : ◌≡◌ {A = ReadPlace} (record { scan = c.args.scan; bit = c.position.result; read = r }) (f r) = ap (λ k. record { scan = c.args.scan; bit = k; read = r }) c.position.ensures in
-    one_more f c.args.reads.now c.loop-read.places.items (c.args.places.now.items ++ map f c.args.reads.now) i c.loop-read.invariant no_read _ c.push.new.self.items c.loop-read-test.true made c.in_ok-push.ensures.ok
+    let made : ◌≡◌ {A = ReadPlace} (record { scan = c.args.scan; bit = c.position.result; read = r }) (f r) =
+    ap (λ k. record { scan = c.args.scan; bit = k; read = r }) c.position.ensures in
+    one_more f c.args.reads.now c.loop-read.places.items
+    (c.args.places.now.items ++ map f c.args.reads.now) i c.loop-read.invariant no_read _
+    c.push.new.self.items c.loop-read-test.true made c.in_ok-push.ensures.ok

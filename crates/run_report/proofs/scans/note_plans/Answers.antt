@@ -7,6 +7,10 @@ loop-plan-preserved c =
     let next : c.loop-plan.plan-index + 1 ≡ suc c.loop-plan.plan-index = omega arith in
     let one : c.loop-plan.scan + 1 ≡ suc c.loop-plan.scan = omega arith in
     record {
-      goes = plan_noted c.args.net.now c.args.holds.now c.args.plans.now c.args.scans c.args.places.now.items c.loop-plan.plan-index c.loop-plan.holds c.loop-plan.scan c.loop-plan.places.items c.loop-plan.invariant.goes c.plan-item.result c.loop-plan-test.true c.plan-item.is _ _ c.advance.new.holds c.note_plan.new.places.items next one c.advance.ensures c.in_ok-note_plan.ensures.places;
+      goes = plan_noted c.args.net.now c.args.holds.now c.args.plans.now c.args.scans c.args.places.now.items
+          c.loop-plan.plan-index c.loop-plan.holds c.loop-plan.scan c.loop-plan.places.items
+          c.loop-plan.invariant.goes c.plan-item.result c.loop-plan-test.true c.plan-item.is _ _
+          c.advance.new.holds c.note_plan.new.places.items next one
+          c.advance.ensures c.in_ok-note_plan.ensures.places;
       room = c.note_plan.ensures.room;
     }

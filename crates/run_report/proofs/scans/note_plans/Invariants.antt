@@ -6,6 +6,7 @@ use Rattle.run_report.proofs.scans.note_plans.Given as goal
 abbrev pub invariant-loop-plan : goal.invariant-loop-plan
 invariant-loop-plan l =
     record {
-      goes : Goes l.net l.fn.holds l.plans l.scans l.fn.places.items l.plan-index l.holds l.scan l.places.items;
+      goes : Goes l.net l.fn.holds l.plans l.scans l.fn.places.items
+          l.plan-index l.holds l.scan l.places.items;
       room : HasRoom l.net l.route;
     }

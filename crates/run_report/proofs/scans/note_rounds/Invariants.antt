@@ -8,7 +8,8 @@ use Rattle.run_report.proofs.scans.note_rounds.Given as goal
 abbrev pub invariant-loop-group : goal.invariant-loop-group
 invariant-loop-group l =
     record {
-      go : Go l.net l.tree l.fn.holds l.rounds l.scans l.fn.places.items l.group-index l.holds l.now l.places.items;
+      go : Go l.net l.tree l.fn.holds l.rounds l.scans l.fn.places.items
+          l.group-index l.holds l.now l.places.items;
       few : l.now ≤ l.scans + 17 * l.group-index;
       scannable : IsScannable l.net l.holds;
       room : HasRoom l.net l.route;

@@ -12,26 +12,43 @@ use Rattle.scan_packer.proofs.held_path.fill_planned.Goals as goal
 
 pub fill_same-requires : goal.fill_same-requires
 fill_same-requires c =
-    omega (arith, path_few c.args.net.now c.args._holds.now c.args.path.now.route.items (seen_plan c.args.plan.now) c.requires.well_formed c.requires.held.path c.requires.plan, ap length c.requires.held.bits, c.requires.tdi_room)
+    omega (
+      arith,
+      path_few c.args.net.now c.args._holds.now c.args.path.now.route.items
+          (seen_plan c.args.plan.now) c.requires.well_formed c.requires.held.path c.requires.plan,
+      ap length c.requires.held.bits,
+      c.requires.tdi_room,
+    )
 
 pub put_writes-requires-clause-route : goal.put_writes-requires-clause-route
 put_writes-requires-clause-route c =
-    is_route c.args.net.now c.args._holds.now c.args.path.now.route.items c.requires.held.path c.requires.well_formed c.as_slice.result.now (c.as_slice.ensures ∙ ap (λ (l : Listed ℕ). l.items) c.regs.ensures)
+    is_route c.args.net.now c.args._holds.now c.args.path.now.route.items c.requires.held.path
+    c.requires.well_formed c.as_slice.result.now
+    (c.as_slice.ensures ∙ ap (λ (l : Listed ℕ). l.items) c.regs.ensures)
 
 pub put_writes-requires-clause-there : goal.put_writes-requires-clause-there
 put_writes-requires-clause-there c =
-    all_there (length c.args.net.now.regs.items) c.as_slice.result.now (is_route c.args.net.now c.args._holds.now c.args.path.now.route.items c.requires.held.path c.requires.well_formed c.as_slice.result.now (c.as_slice.ensures ∙ ap (λ (l : Listed ℕ). l.items) c.regs.ensures))
+    all_there (length c.args.net.now.regs.items) c.as_slice.result.now (is_route c.args.net.now
+    c.args._holds.now c.args.path.now.route.items c.requires.held.path c.requires.well_formed
+    c.as_slice.result.now (c.as_slice.ensures ∙ ap (λ (l : Listed ℕ). l.items) c.regs.ensures))
 
 pub put_writes-requires-clause-on_path : goal.put_writes-requires-clause-on_path
 put_writes-requires-clause-on_path c =
-    writes_on c.args.net.now c.args._holds.now c.as_slice.result.now c.as_slice-2.result.now c.args.plan.now.reads.items (can_pack c.args.net.now c.args._holds.now c.args.path.now.route.items c.requires.held.path c.as_slice.result.now (seen_plan c.args.plan.now) c.as_slice-2.result.now c.args.plan.now.reads.items c.requires.plan (c.as_slice.ensures ∙ ap (λ (l : Listed ℕ). l.items) c.regs.ensures) c.as_slice-2.ensures refl)
+    writes_on c.args.net.now c.args._holds.now c.as_slice.result.now c.as_slice-2.result.now
+    c.args.plan.now.reads.items (can_pack c.args.net.now c.args._holds.now c.args.path.now.route.items
+    c.requires.held.path c.as_slice.result.now
+    (seen_plan c.args.plan.now) c.as_slice-2.result.now c.args.plan.now.reads.items c.requires.plan
+    (c.as_slice.ensures ∙ ap (λ (l : Listed ℕ). l.items) c.regs.ensures) c.as_slice-2.ensures refl)
 
 pub put_writes-requires-clause-short : goal.put_writes-requires-clause-short
 put_writes-requires-clause-short c =
     let net = c.args.net.now in
     let path = reverse c.as_slice.result.now in
-    let route = is_route net c.args._holds.now c.args.path.now.route.items c.requires.held.path c.requires.well_formed c.as_slice.result.now (c.as_slice.ensures ∙ ap (λ (l : Listed ℕ). l.items) c.regs.ensures) in
-    chain_short net path c.requires.well_formed route (zero_holds net) (zero_shape net path c.requires.well_formed route)
+    let route = is_route net c.args._holds.now c.args.path.now.route.items c.requires.held.path
+    c.requires.well_formed c.as_slice.result.now
+    (c.as_slice.ensures ∙ ap (λ (l : Listed ℕ). l.items) c.regs.ensures) in
+    chain_short net path c.requires.well_formed route (zero_holds net)
+    (zero_shape net path c.requires.well_formed route)
 
 pub put_writes-requires-clause-long : goal.put_writes-requires-clause-long
 put_writes-requires-clause-long c =
@@ -39,7 +56,12 @@ put_writes-requires-clause-long c =
     let holds = c.args._holds.now in
     let same = c.as_slice.ensures ∙ ap (λ (l : Listed ℕ). l.items) c.regs.ensures in
     let path = reverse c.as_slice.result.now in
-    let route = is_route net holds c.args.path.now.route.items c.requires.held.path c.requires.well_formed c.as_slice.result.now same in
-    let packed = can_pack net holds c.args.path.now.route.items c.requires.held.path c.as_slice.result.now (seen_plan c.args.plan.now) c.as_slice-2.result.now c.args.plan.now.reads.items c.requires.plan same c.as_slice-2.ensures refl in
-    ap length (c.fill_same.ensures.items ∙ c.requires.held.bits ∙ ap (λ r. chain (reverse r) holds) (sym same))
-    ∙ length-chain_same path holds (zero_holds net) (packed.widths ∙ sym (zero_shape net path c.requires.well_formed route))
+    let route = is_route net holds c.args.path.now.route.items c.requires.held.path
+    c.requires.well_formed c.as_slice.result.now same in
+    let packed = can_pack net holds c.args.path.now.route.items c.requires.held.path c.as_slice.result.now
+    (seen_plan c.args.plan.now) c.as_slice-2.result.now c.args.plan.now.reads.items
+    c.requires.plan same c.as_slice-2.ensures refl in
+    ap length (c.fill_same.ensures.items ∙ c.requires.held.bits
+    ∙ ap (λ r. chain (reverse r) holds) (sym same))
+    ∙ length-chain_same path holds (zero_holds net)
+    (packed.widths ∙ sym (zero_shape net path c.requires.well_formed route))

@@ -6,7 +6,14 @@ use Rattle.scan_packer.proofs.packing.fill_compared.Goals as goal
 
 pub fill_zeros-requires-clause-room : goal.fill_zeros-requires-clause-room
 fill_zeros-requires-clause-room c =
-    omega (arith, chain_few c.args.net.now (reverse c.args.path.now) c.requires.well_formed c.requires.route (zero_holds c.args.net.now) (zero_shape c.args.net.now (reverse c.args.path.now) c.requires.well_formed c.requires.route), c.requires.count, c.requires.tdo_room)
+    omega (
+      arith,
+      chain_few c.args.net.now (reverse c.args.path.now) c.requires.well_formed c.requires.route
+          (zero_holds c.args.net.now) (zero_shape c.args.net.now (reverse c.args.path.now)
+          c.requires.well_formed c.requires.route),
+      c.requires.count,
+      c.requires.tdo_room,
+    )
 
 pub put_expectations-requires-clause-there : goal.put_expectations-requires-clause-there
 put_expectations-requires-clause-there c =
@@ -14,7 +21,14 @@ put_expectations-requires-clause-there c =
 
 pub fill_zeros-requires-2-clause-room : goal.fill_zeros-requires-2-clause-room
 fill_zeros-requires-2-clause-room c =
-    omega (arith, chain_few c.args.net.now (reverse c.args.path.now) c.requires.well_formed c.requires.route (zero_holds c.args.net.now) (zero_shape c.args.net.now (reverse c.args.path.now) c.requires.well_formed c.requires.route), c.requires.count, c.requires.mask_room)
+    omega (
+      arith,
+      chain_few c.args.net.now (reverse c.args.path.now) c.requires.well_formed c.requires.route
+          (zero_holds c.args.net.now) (zero_shape c.args.net.now (reverse c.args.path.now)
+          c.requires.well_formed c.requires.route),
+      c.requires.count,
+      c.requires.mask_room,
+    )
 
 pub put_marks-requires-clause-there : goal.put_marks-requires-clause-there
 put_marks-requires-clause-there c =
@@ -22,8 +36,14 @@ put_marks-requires-clause-there c =
 
 pub returns-clause-tdo : goal.returns-clause-tdo
 returns-clause-tdo c =
-    c.put_expectations.ensures.bits.written (zero_holds c.args.net.now) (zero_shape c.args.net.now (reverse c.args.path.now) c.requires.well_formed c.requires.route) (c.fill_zeros.ensures.items ∙ ap (λ k. replicate k false) c.requires.count ∙ sym (zero_chain c.args.net.now (reverse c.args.path.now)))
+    c.put_expectations.ensures.bits.written (zero_holds c.args.net.now)
+    (zero_shape c.args.net.now (reverse c.args.path.now) c.requires.well_formed c.requires.route)
+    (c.fill_zeros.ensures.items ∙ ap (λ k. replicate k false) c.requires.count
+    ∙ sym (zero_chain c.args.net.now (reverse c.args.path.now)))
 
 pub returns-clause-mask : goal.returns-clause-mask
 returns-clause-mask c =
-    c.put_marks.ensures.bits.written (zero_holds c.args.net.now) (zero_shape c.args.net.now (reverse c.args.path.now) c.requires.well_formed c.requires.route) (c.fill_zeros-2.ensures.items ∙ ap (λ k. replicate k false) c.requires.count ∙ sym (zero_chain c.args.net.now (reverse c.args.path.now)))
+    c.put_marks.ensures.bits.written (zero_holds c.args.net.now)
+    (zero_shape c.args.net.now (reverse c.args.path.now) c.requires.well_formed c.requires.route)
+    (c.fill_zeros-2.ensures.items ∙ ap (λ k. replicate k false) c.requires.count
+    ∙ sym (zero_chain c.args.net.now (reverse c.args.path.now)))

@@ -12,7 +12,9 @@ use Rattle.scan_packer.proofs.packing.pack.Goals as goal
 
 pub fill_compared-requires-clause-route : goal.fill_compared-requires-clause-route
 fill_compared-requires-clause-route c =
-    is_route c.args.net.now c.args.holds.now c.pack_tdi.new.route.items c.pack_tdi.ensures.path c.requires.well_formed c.as_slice-path.result.now (c.as_slice-path.ensures ∙ ap (λ (l : Listed ℕ). l.items) c.regs.ensures)
+    is_route c.args.net.now c.args.holds.now c.pack_tdi.new.route.items c.pack_tdi.ensures.path
+    c.requires.well_formed c.as_slice-path.result.now
+    (c.as_slice-path.ensures ∙ ap (λ (l : Listed ℕ). l.items) c.regs.ensures)
 
 pub fill_compared-requires-clause-count : goal.fill_compared-requires-clause-count
 fill_compared-requires-clause-count c =
@@ -22,11 +24,17 @@ fill_compared-requires-clause-count c =
     let path = c.as_slice-path.result.now in
     let same = c.as_slice-path.ensures ∙ ap (λ (l : Listed ℕ). l.items) c.regs.ensures in
     let r = is_route net holds route c.pack_tdi.ensures.path c.requires.well_formed path same in
-    let held = can_pack net holds route c.pack_tdi.ensures.path path (seen_plan c.args.plan.now) c.args.plan.now.writes.items c.args.plan.now.reads.items c.requires.plan same refl refl in
+    let held = can_pack net holds route c.pack_tdi.ensures.path path (seen_plan c.args.plan.now)
+    c.args.plan.now.writes.items c.args.plan.now.reads.items c.requires.plan same refl refl in
     c.len.ensures ∙ ap length c.pack_tdi.ensures.tdi ∙ as_long net holds route (seen_plan c.args.plan.now)
     ∙ ap (λ p. length (chain (reverse p) holds)) (sym same)
-    ∙ length-chain_same (reverse path) holds (zero_holds net) (held.widths ∙ sym (zero_shape net (reverse path) c.requires.well_formed r))
+    ∙ length-chain_same (reverse path) holds (zero_holds net)
+    (held.widths ∙ sym (zero_shape net (reverse path) c.requires.well_formed r))
 
 pub fill_compared-requires-clause-on_path : goal.fill_compared-requires-clause-on_path
 fill_compared-requires-clause-on_path c =
-    reads_on c.args.net.now c.args.holds.now c.as_slice-path.result.now c.args.plan.now.writes.items c.as_slice.result.now (can_pack c.args.net.now c.args.holds.now c.pack_tdi.new.route.items c.pack_tdi.ensures.path c.as_slice-path.result.now (seen_plan c.args.plan.now) c.args.plan.now.writes.items c.as_slice.result.now c.requires.plan (c.as_slice-path.ensures ∙ ap (λ (l : Listed ℕ). l.items) c.regs.ensures) refl c.as_slice.ensures)
+    reads_on c.args.net.now c.args.holds.now c.as_slice-path.result.now c.args.plan.now.writes.items
+    c.as_slice.result.now (can_pack c.args.net.now c.args.holds.now c.pack_tdi.new.route.items
+    c.pack_tdi.ensures.path c.as_slice-path.result.now
+    (seen_plan c.args.plan.now) c.args.plan.now.writes.items c.as_slice.result.now c.requires.plan
+    (c.as_slice-path.ensures ∙ ap (λ (l : Listed ℕ). l.items) c.regs.ensures) refl c.as_slice.ensures)

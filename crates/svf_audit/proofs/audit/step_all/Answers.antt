@@ -25,15 +25,18 @@ step-requires-clause-fits c =
     let cs = c.args.commands.now in
     let i = c.loop-i.i in
     let s = seen_command c.get-command.result.now in
-    let here : drop i cs ≡ s ∷ drop (i + 1) cs = command_here cs i s (omega (arith, c.len-i-end.ensures.count)) c.get-command.ensures in
-    (fits_next s (last_length a.ir) (last_length a.dr) (drop (i + 1) cs) (subst (AreFitAfter (last_length a.ir) (last_length a.dr)) here c.loop-i.invariant.fit)).0
+    let here : drop i cs ≡ s ∷ drop (i + 1) cs =
+    command_here cs i s (omega (arith, c.len-i-end.ensures.count)) c.get-command.ensures in
+    (fits_next s (last_length a.ir) (last_length a.dr) (drop (i + 1) cs)
+    (subst (AreFitAfter (last_length a.ir) (last_length a.dr)) here c.loop-i.invariant.fit)).0
 
 pub step-requires-clause-few : goal.step-requires-clause-few
 step-requires-clause-few c =
     let cs = c.args.commands.now in
     let i = c.loop-i.i in
     let s = seen_command c.get-command.result.now in
-    let here : drop i cs ≡ s ∷ drop (i + 1) cs = command_here cs i s (omega (arith, c.len-i-end.ensures.count)) c.get-command.ensures in
+    let here : drop i cs ≡ s ∷ drop (i + 1) cs =
+    command_here cs i s (omega (arith, c.len-i-end.ensures.count)) c.get-command.ensures in
     omega (arith, c.loop-i.invariant.few, ap scans_in here, scans_first s (drop (i + 1) cs))
 
 pub returns-in-Err-clause-err : goal.returns-in-Err-clause-err
@@ -47,10 +50,13 @@ returns-in-Err-clause-err c =
     let i = c.loop-i.i in
     let s = seen_command c.get-command.result.now in
     let whole = audit_from net device (state_of old []) cs in
-    let here : drop i cs ≡ s ∷ drop (i + 1) cs = command_here cs i s (omega (arith, c.len-i-end.ensures.count)) c.get-command.ensures in
+    let here : drop i cs ≡ s ∷ drop (i + 1) cs =
+    command_here cs i s (omega (arith, c.len-i-end.ensures.count)) c.get-command.ensures in
     let n = c.step.new.self.scans + c.scans_of.result in
-    let count = ap (λ k. k + c.scans_of.result) c.in-Err.ensures.scans ∙ ap (λ k. a.scans + k) c.scans_of.ensures in
-    λ answer is. leads_to_no net device a v.net v.device s (drop (i + 1) cs) whole c.in-Err.halt n answer c.in-Err.ensures.err count (subst (λ ys. Leads net device a ys whole) here v.leads) is
+    let count = ap (λ k. k + c.scans_of.result) c.in-Err.ensures.scans
+    ∙ ap (λ k. a.scans + k) c.scans_of.ensures in
+    λ answer is. leads_to_no net device a v.net v.device s (drop (i + 1) cs) whole c.in-Err.halt n answer
+    c.in-Err.ensures.err count (subst (λ ys. Leads net device a ys whole) here v.leads) is
 
 pub loop-i-preserved : goal.loop-i-preserved
 loop-i-preserved c =
@@ -65,14 +71,18 @@ loop-i-preserved c =
     let s = seen_command c.get-command.result.now in
     let rest = drop (i + 1) cs in
     let whole = audit_from net device (state_of old []) cs in
-    let here : drop i cs ≡ s ∷ rest = command_here cs i s (omega (arith, c.len-i-end.ensures.count)) c.get-command.ensures in
+    let here : drop i cs ≡ s ∷ rest =
+    command_here cs i s (omega (arith, c.len-i-end.ensures.count)) c.get-command.ensures in
     let d = c.in_default.ensures in
-    let fit = (fits_next s (last_length a.ir) (last_length a.dr) rest (subst (AreFitAfter (last_length a.ir) (last_length a.dr)) here v.fit)).1 in
+    let fit = (fits_next s (last_length a.ir) (last_length a.dr) rest
+    (subst (AreFitAfter (last_length a.ir) (last_length a.dr)) here v.fit)).1 in
     record {
       sound = d.ok.sound;
       net = d.ok.net ∙ v.net;
       device = d.ok.device ∙ v.device;
-      fit = subst (λ n. AreFitAfter n (last_length b.dr) rest) (sym d.ir) (subst (λ n. AreFitAfter (last_ir (last_length a.ir) s) n rest) (sym d.dr) fit);
+      fit = subst (λ n. AreFitAfter n (last_length b.dr) rest) (sym d.ir)
+          (subst (λ n. AreFitAfter (last_ir (last_length a.ir) s) n rest) (sym d.dr) fit);
       few = omega (arith, v.few, ap scans_in here, scans_first s rest, d.more);
-      leads = leads_on net device a v.net v.device b s rest whole d.ok (subst (λ ys. Leads net device a ys whole) here v.leads);
+      leads = leads_on net device a v.net v.device b s rest whole d.ok
+          (subst (λ ys. Leads net device a ys whole) here v.leads);
     }

@@ -15,5 +15,7 @@ invariant-loop-i l =
       device : l.auditor.device.now ≡ l.fn.auditor.device.now;
       fit : AreFitAfter (last_length l.auditor.ir) (last_length l.auditor.dr) (drop l.i l.commands);
       few : l.auditor.scans + scans_in (drop l.i l.commands) < 2 ^ 32;
-      leads : Leads l.fn.auditor.registers.net.now l.fn.auditor.device.now l.auditor (drop l.i l.commands) (audit_from l.fn.auditor.registers.net.now l.fn.auditor.device.now (state_of l.fn.auditor []) l.commands);
+      leads : Leads l.fn.auditor.registers.net.now l.fn.auditor.device.now l.auditor (drop l.i l.commands)
+          (audit_from l.fn.auditor.registers.net.now l.fn.auditor.device.now
+          (state_of l.fn.auditor []) l.commands);
     }

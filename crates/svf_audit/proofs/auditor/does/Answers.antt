@@ -18,7 +18,8 @@ pub does_reads-requires-clause-path : goal.does_reads-requires-clause-path
 does_reads-requires-clause-path c =
     let r = c.args.r.now in
     let P : List ℕ → Type 0 = IsRoute (length r.net.now.regs.items) in
-    subst P (sym (c.as_slice.ensures ∙ c.requires.found.path)) (route_is r.net.now r.holds c.requires.sound.net)
+    subst P (sym (c.as_slice.ensures ∙ c.requires.found.path))
+    (route_is r.net.now r.holds c.requires.sound.net)
 
 pub does_writes-requires-clause-now : goal.does_writes-requires-clause-now
 does_writes-requires-clause-now c =
@@ -33,8 +34,12 @@ returns-then-not-does_writes-clause-does c =
     let r = c.args.r.now in
     let g : SeenGroup = seen_group c.args.group.now in
     let p : BitId → Bool = λ b. not (is_select r.net.now b) in
-    let w : does_writes g (changed r.net.now (path_in r) r.holds r.after) r.after ≡ c.does_writes.result = sym (c.does_writes.ensures.done ∙ ap (λ bs. does_writes g (filter p bs) r.after) c.as_slice-moved.ensures ∙ ap (λ bs. does_writes g bs r.after) (sym (changed_as r c.requires.shifted))) in
-    λ next. ap (λ t. need t Write (need (does_reads g (path_in r) r.holds (looked_for c.args.kept.now c.args.tdo.now)) Read next)) (w ∙ c.if-not-does_writes.true)
+    let w : does_writes g (changed r.net.now (path_in r) r.holds r.after) r.after ≡ c.does_writes.result = sym
+    (c.does_writes.ensures.done ∙ ap (λ bs. does_writes g (filter p bs) r.after) c.as_slice-moved.ensures
+    ∙ ap (λ bs. does_writes g bs r.after) (sym (changed_as r c.requires.shifted))) in
+    λ next. ap (λ t. need t Write
+    (need (does_reads g (path_in r) r.holds (looked_for c.args.kept.now c.args.tdo.now)) Read next))
+    (w ∙ c.if-not-does_writes.true)
 
 pub returns-then-not-does_reads-clause-does : goal.returns-then-not-does_reads-clause-does
 returns-then-not-does_reads-clause-does c =
@@ -42,14 +47,19 @@ returns-then-not-does_reads-clause-does c =
     let g : SeenGroup = seen_group c.args.group.now in
     let es = looked_for c.args.kept.now c.args.tdo.now in
     let p : BitId → Bool = λ b. not (is_select r.net.now b) in
-    let w : does_writes g (changed r.net.now (path_in r) r.holds r.after) r.after ≡ c.does_writes.result = sym (c.does_writes.ensures.done ∙ ap (λ bs. does_writes g (filter p bs) r.after) c.as_slice-moved.ensures ∙ ap (λ bs. does_writes g bs r.after) (sym (changed_as r c.requires.shifted))) in
+    let w : does_writes g (changed r.net.now (path_in r) r.holds r.after) r.after ≡ c.does_writes.result = sym
+    (c.does_writes.ensures.done ∙ ap (λ bs. does_writes g (filter p bs) r.after) c.as_slice-moved.ensures
+    ∙ ap (λ bs. does_writes g bs r.after) (sym (changed_as r c.requires.shifted))) in
     let on : List ℕ → Bool = λ path. list_all (λ x. list_any (λ y. y == x.bit.reg) path) g.reads in
     let d : does_reads g (path_in r) r.holds es ≡ c.does_reads.result = sym (
     c.does_reads.ensures.done
-    ∙ ap (λ bs. same_expects es (map (expected_of g.reads) bs) && on c.as_slice.result.now) (c.as_slice-bits.ensures.value ∙ c.requires.found.bits)
-    ∙ ap (λ path. same_expects es (map (expected_of g.reads) (bits_on r.holds (path_in r))) && on path) (c.as_slice.ensures ∙ c.requires.found.path)
+    ∙ ap (λ bs. same_expects es (map (expected_of g.reads) bs) && on c.as_slice.result.now)
+    (c.as_slice-bits.ensures.value ∙ c.requires.found.bits)
+    ∙ ap (λ path. same_expects es (map (expected_of g.reads) (bits_on r.holds (path_in r))) && on path)
+    (c.as_slice.ensures ∙ c.requires.found.path)
     ) in
-    λ next. ap (λ t. need t Write (need (does_reads g (path_in r) r.holds es) Read next)) (w ∙ c.if-not-does_writes.false) ∙ ap (λ t. need t Read next) (d ∙ c.if-not-does_reads.true)
+    λ next. ap (λ t. need t Write (need (does_reads g (path_in r) r.holds es) Read next))
+    (w ∙ c.if-not-does_writes.false) ∙ ap (λ t. need t Read next) (d ∙ c.if-not-does_reads.true)
 
 pub returns-clause-does : goal.returns-clause-does
 returns-clause-does c =
@@ -57,11 +67,16 @@ returns-clause-does c =
     let g : SeenGroup = seen_group c.args.group.now in
     let es = looked_for c.args.kept.now c.args.tdo.now in
     let p : BitId → Bool = λ b. not (is_select r.net.now b) in
-    let w : does_writes g (changed r.net.now (path_in r) r.holds r.after) r.after ≡ c.does_writes.result = sym (c.does_writes.ensures.done ∙ ap (λ bs. does_writes g (filter p bs) r.after) c.as_slice-moved.ensures ∙ ap (λ bs. does_writes g bs r.after) (sym (changed_as r c.requires.shifted))) in
+    let w : does_writes g (changed r.net.now (path_in r) r.holds r.after) r.after ≡ c.does_writes.result = sym
+    (c.does_writes.ensures.done ∙ ap (λ bs. does_writes g (filter p bs) r.after) c.as_slice-moved.ensures
+    ∙ ap (λ bs. does_writes g bs r.after) (sym (changed_as r c.requires.shifted))) in
     let on : List ℕ → Bool = λ path. list_all (λ x. list_any (λ y. y == x.bit.reg) path) g.reads in
     let d : does_reads g (path_in r) r.holds es ≡ c.does_reads.result = sym (
     c.does_reads.ensures.done
-    ∙ ap (λ bs. same_expects es (map (expected_of g.reads) bs) && on c.as_slice.result.now) (c.as_slice-bits.ensures.value ∙ c.requires.found.bits)
-    ∙ ap (λ path. same_expects es (map (expected_of g.reads) (bits_on r.holds (path_in r))) && on path) (c.as_slice.ensures ∙ c.requires.found.path)
+    ∙ ap (λ bs. same_expects es (map (expected_of g.reads) bs) && on c.as_slice.result.now)
+    (c.as_slice-bits.ensures.value ∙ c.requires.found.bits)
+    ∙ ap (λ path. same_expects es (map (expected_of g.reads) (bits_on r.holds (path_in r))) && on path)
+    (c.as_slice.ensures ∙ c.requires.found.path)
     ) in
-    λ next. ap (λ t. need t Write (need (does_reads g (path_in r) r.holds es) Read next)) (w ∙ c.if-not-does_writes.false) ∙ ap (λ t. need t Read next) (d ∙ c.if-not-does_reads.false)
+    λ next. ap (λ t. need t Write (need (does_reads g (path_in r) r.holds es) Read next))
+    (w ∙ c.if-not-does_writes.false) ∙ ap (λ t. need t Read next) (d ∙ c.if-not-does_reads.false)

@@ -12,7 +12,8 @@ returns-in-Some c =
     let to = c.args.from + c.args.n in
     ap (λ x. not (x == 0)) c.number.ensures
     ∙ number_zero (slice_range (unwrap_or c.in-Some.mask.now []) c.args.from to)
-    ∙ ap (λ o. has_one (slice_range (unwrap_or (lent o) (replicate k.len true)) c.args.from to)) (sym c.in-Some.is)
+    ∙ ap (λ o. has_one (slice_range (unwrap_or (lent o) (replicate k.len true)) c.args.from to))
+    (sym c.in-Some.is)
 
 pub returns-in-None : goal.returns-in-None
 returns-in-None c =
@@ -21,4 +22,5 @@ returns-in-None c =
     let size : c.args.n ≡ to - c.args.from = omega arith in
     sym (ones_some k.len c.args.from c.args.n c.requires.within)
     ∙ ap (λ x. has_one (take x (drop c.args.from (replicate k.len true)))) size
-    ∙ ap (λ o. has_one (slice_range (unwrap_or (lent o) (replicate k.len true)) c.args.from to)) (sym c.in-None.is)
+    ∙ ap (λ o. has_one (slice_range (unwrap_or (lent o) (replicate k.len true)) c.args.from to))
+    (sym c.in-None.is)

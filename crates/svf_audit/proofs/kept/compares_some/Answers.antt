@@ -3,12 +3,14 @@ use Rattle.std.proofs.lemmas.List.{drop_all}
 use Rattle.ij_bits.specs.BitLists.{has_one}
 use Rattle.svf_writer.specs.Lent.{lent}
 use Rattle.svf_audit.specs.Kept.{seen_kept}
-use Rattle.svf_audit.proofs.Looking.{any_compared, is_absent, is_there, mask_length, no_one_here, none_compared, one_here}
+use Rattle.svf_audit.proofs.Looking.{any_compared, is_absent, is_there, mask_length, no_one_here}
+use Rattle.svf_audit.proofs.Looking.{none_compared, one_here}
 use Rattle.svf_audit.proofs.kept.compares_some.Goals as goal
 
 pub returns-then-not-is_given : goal.returns-then-not-is_given
 returns-then-not-is_given c =
-    sym (none_compared c.args.kept.now.len c.args.tdo.now (seen_kept c.args.kept.now).mask (is_absent c.is_given.result c.args.tdo.now c.is_given.ensures c.if-not-is_given.true))
+    sym (none_compared c.args.kept.now.len c.args.tdo.now (seen_kept c.args.kept.now).mask
+    (is_absent c.is_given.result c.args.tdo.now c.is_given.ensures c.if-not-is_given.true))
 
 pub returns-then-compares_one_of : goal.returns-then-compares_one_of
 returns-then-compares_one_of c =
@@ -17,7 +19,9 @@ returns-then-compares_one_of c =
     let from = 64 * c.loop-word.word in
     let at : min from k.len ≡ from = omega arith in
     sym (
-    any_compared k.len c.args.tdo.now mask c.requires.tdo (mask_length k.len (lent k.mask) c.requires.sound.mask) (is_there c.is_given.result c.args.tdo.now c.is_given.ensures c.if-not-is_given.false)
+    any_compared k.len c.args.tdo.now mask c.requires.tdo
+    (mask_length k.len (lent k.mask) c.requires.sound.mask)
+    (is_there c.is_given.result c.args.tdo.now c.is_given.ensures c.if-not-is_given.false)
     ∙ sym c.loop-word.invariant
     ∙ ap (λ p. has_one (drop p mask)) at
     ∙ one_here mask from c.min.result (sym c.compares_one_of.ensures ∙ c.if-compares_one_of.true)
@@ -42,7 +46,8 @@ returns c =
     let long : length mask ≡ k.len = mask_length k.len (lent k.mask) c.requires.sound.mask in
     let all : length mask ≤ min (64 * c.loop-word.word) k.len = omega (arith, long) in
     sym (
-    any_compared k.len c.args.tdo.now mask c.requires.tdo long (is_there c.is_given.result c.args.tdo.now c.is_given.ensures c.if-not-is_given.false)
+    any_compared k.len c.args.tdo.now mask c.requires.tdo long
+    (is_there c.is_given.result c.args.tdo.now c.is_given.ensures c.if-not-is_given.false)
     ∙ sym c.loop-word.invariant
     ∙ ap has_one (drop_all (min (64 * c.loop-word.word) k.len) mask all)
     )

@@ -10,7 +10,8 @@ pub returns-then-tdi_at-rest : goal.returns-then-tdi_at-rest
 returns-then-tdi_at-rest c =
     let k = c.args.kept.now in
     let within : c.loop-k.k < k.len = omega arith in
-    let rest : Bool = bits_eq (drop (c.loop-k.k + 1) (seen_tdi k)) (bits_of (k.len - (c.loop-k.k + 1)) (c.loop-k.rest / 2)) in
+    let rest : Bool = bits_eq (drop (c.loop-k.k + 1) (seen_tdi k))
+    (bits_of (k.len - (c.loop-k.k + 1)) (c.loop-k.rest / 2)) in
     sym (ap (λ b. b && rest) (differ _ _ c.if-tdi_at-rest.true))
     ∙ ap (λ b. same_bit b ((c.loop-k.rest % 2) == 1) && rest) c.tdi_at.ensures
     ∙ sym (eq_at (seen_tdi k) k.len c.loop-k.k c.loop-k.rest c.requires.tdi within)
@@ -20,7 +21,8 @@ pub loop-k-preserved : goal.loop-k-preserved
 loop-k-preserved c =
     let k = c.args.kept.now in
     let within : c.loop-k.k < k.len = omega arith in
-    let rest : Bool = bits_eq (drop (c.loop-k.k + 1) (seen_tdi k)) (bits_of (k.len - (c.loop-k.k + 1)) (c.loop-k.rest / 2)) in
+    let rest : Bool = bits_eq (drop (c.loop-k.k + 1) (seen_tdi k))
+    (bits_of (k.len - (c.loop-k.k + 1)) (c.loop-k.rest / 2)) in
     sym (ap (λ b. b && rest) (agree _ _ c.if-tdi_at-rest.false))
     ∙ ap (λ b. same_bit b ((c.loop-k.rest % 2) == 1) && rest) c.tdi_at.ensures
     ∙ sym (eq_at (seen_tdi k) k.len c.loop-k.k c.loop-k.rest c.requires.tdi within)

@@ -5,4 +5,5 @@ use Rattle.svf_audit.proofs.kept.is_number.Given as goal
 
 abbrev pub invariant-loop-k : goal.invariant-loop-k
 invariant-loop-k l =
-    bits_eq (drop l.k (seen_tdi l.kept)) (bits_of (l.kept.len - l.k) l.rest) ≡ bits_eq (seen_tdi l.kept) (bits_of l.kept.len l.n)
+    bits_eq (drop l.k (seen_tdi l.kept)) (bits_of (l.kept.len - l.k) l.rest)
+    ≡ bits_eq (seen_tdi l.kept) (bits_of l.kept.len l.n)

@@ -10,7 +10,9 @@ loop-same-preserved c =
     let old = c.args.old.now in
     let i = c.loop-same.same in
     let v = c.loop-same.invariant in
-    let n = both_next c.args.holds.now c.args.bits.now.items (bits_on c.args.holds.now path) path old i c.loop-same.kept c.len.result c.loop-same-test.true c.if-same-old.true c.if-path-same.true (c.len.ensures ∙ ap length c.register.ensures) v.within v.rest v.front in
+    let n = both_next c.args.holds.now c.args.bits.now.items (bits_on c.args.holds.now path) path old i
+    c.loop-same.kept c.len.result c.loop-same-test.true c.if-same-old.true c.if-path-same.true
+    (c.len.ensures ∙ ap length c.register.ensures) v.within v.rest v.front in
     record {
       front = n.0;
       rest = n.1;

@@ -6,4 +6,5 @@ use Rattle.svf_audit.proofs.scan.some_data.Given as goal
 
 abbrev pub invariant-loop-bit : goal.invariant-loop-bit
 invariant-loop-bit l =
-    list_any (λ b. not (is_select l.net b)) (drop l.bit-index l.bits) ≡ list_any (λ b. not (is_select l.net b)) l.bits
+    list_any (λ b. not (is_select l.net b)) (drop l.bit-index l.bits)
+    ≡ list_any (λ b. not (is_select l.net b)) l.bits

@@ -8,7 +8,8 @@ invariant-loop-pins l =
     let chip = chip_of l.fn.bench in
     record {
       same : l.bench ≡ record l.fn.bench { state = l.bench.state };
-      left : held_at chip l.scan l.end l.player.pins l.bench.state ≡ held_at chip l.scan l.end l.fn.player.pins l.fn.bench.state;
+      left : held_at chip l.scan l.end l.player.pins l.bench.state
+          ≡ held_at chip l.scan l.end l.fn.player.pins l.fn.bench.state;
     }
 
 abbrev pub decreases-loop-pins : goal.decreases-loop-pins

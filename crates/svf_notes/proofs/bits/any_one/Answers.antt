@@ -13,7 +13,9 @@ returns-then-number-ne0 c =
     let w = c.args.width in
     let p = take w (drop c.args.at xs) in
     let one : not (c.number.result == 0) ≡ true = grind (arith, nat_tests) in
-    sym (sym c.loop-done.invariant.left ∙ one_step xs c.args.at w k n c.number.result (omega (arith, c.min-n.ensures, c.loop-done.invariant.within)) c.number.ensures.value ∙ ap (λ b. b || has_one (drop (k + n) p)) one)
+    sym (sym c.loop-done.invariant.left ∙ one_step xs c.args.at w k n c.number.result
+    (omega (arith, c.min-n.ensures, c.loop-done.invariant.within)) c.number.ensures.value
+    ∙ ap (λ b. b || has_one (drop (k + n) p)) one)
 
 pub loop-done-preserved : goal.loop-done-preserved
 loop-done-preserved c =
@@ -26,5 +28,6 @@ loop-done-preserved c =
     let none : not (c.number.result == 0) ≡ false = grind (arith, nat_tests) in
     record {
       within = within;
-      left = sym (one_step xs c.args.at w k n c.number.result within c.number.ensures.value ∙ ap (λ b. b || has_one (drop (k + n) p)) none) ∙ c.loop-done.invariant.left;
+      left = sym (one_step xs c.args.at w k n c.number.result within c.number.ensures.value
+          ∙ ap (λ b. b || has_one (drop (k + n) p)) none) ∙ c.loop-done.invariant.left;
     }

@@ -5,7 +5,8 @@ use Rattle.svf_notes.proofs.bits.any_other.Given as goal
 
 abbrev pub invariant-loop-done : goal.invariant-loop-done
 invariant-loop-done l =
-    let bits = differing (take l.width (drop l.at l.marks.items)) (take l.width (drop l.at l.bits.items)) (take l.width (drop l.at l.others.items)) in
+    let bits = differing (take l.width (drop l.at l.marks.items)) (take l.width (drop l.at l.bits.items))
+    (take l.width (drop l.at l.others.items)) in
     record { within : l.done ≤ l.width; left : has_one (drop l.done bits) ≡ has_one bits }
 
 abbrev pub decreases-loop-done : goal.decreases-loop-done

@@ -11,7 +11,9 @@ returns-then-number c =
     let n = c.min-n.result in
     let apart : c.number.result ≡ c.number-in-loop-done.result → ⊥ = λ same. grind (arith, nat_tests, same) in
     sym (sym c.loop-done.invariant.left
-    ∙ other_step xs ys c.args.at k n c.number.result c.number-in-loop-done.result (omega (arith, c.min-n.ensures, c.loop-done.invariant.within, c.len-width.ensures)) c.requires c.number.ensures.value c.number-in-loop-done.ensures.value apart)
+    ∙ other_step xs ys c.args.at k n c.number.result c.number-in-loop-done.result
+    (omega (arith, c.min-n.ensures, c.loop-done.invariant.within, c.len-width.ensures)) c.requires
+    c.number.ensures.value c.number-in-loop-done.ensures.value apart)
 
 pub loop-done-preserved : goal.loop-done-preserved
 loop-done-preserved c =
@@ -22,5 +24,7 @@ loop-done-preserved c =
     let same : c.number.result ≡ c.number-in-loop-done.result = grind (arith, nat_tests) in
     record {
       within = omega (arith, c.min-n.ensures, c.loop-done.invariant.within);
-      left = sym (same_step xs ys c.args.at k n c.number.result c.number-in-loop-done.result (omega (arith, c.min-n.ensures, c.loop-done.invariant.within, c.len-width.ensures)) c.requires c.number.ensures.value c.number-in-loop-done.ensures.value same) ∙ c.loop-done.invariant.left;
+      left = sym (same_step xs ys c.args.at k n c.number.result c.number-in-loop-done.result
+          (omega (arith, c.min-n.ensures, c.loop-done.invariant.within, c.len-width.ensures)) c.requires
+          c.number.ensures.value c.number-in-loop-done.ensures.value same) ∙ c.loop-done.invariant.left;
     }

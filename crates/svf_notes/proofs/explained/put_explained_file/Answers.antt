@@ -13,7 +13,10 @@ returns-clause-part g c =
     let playing = c.in_ok-playing.playing in
     let is = c.in_ok-playing.ensures in
     on_err_weaker c.put_text.result
-    (part_of (g.S.Shelf.files a.shelf.now) (g.S.Shelf.files c.begin.new.self) (g.S.Shelf.files c.put_text.new.shelf) a.name.now c.new-piece.result (explained (left_notes playing) a.src.now) (explained_text a.net.now a.device.now models a.commands.now a.src.now) c.new-piece.ensures c.in_ok-begin.ensures.empty
+    (part_of (g.S.Shelf.files a.shelf.now) (g.S.Shelf.files c.begin.new.self)
+    (g.S.Shelf.files c.put_text.new.shelf) a.name.now c.new-piece.result
+    (explained (left_notes playing) a.src.now) (explained_text a.net.now a.device.now models
+    a.commands.now a.src.now) c.new-piece.ensures c.in_ok-begin.ensures.empty
     (start_text playing a.net.now a.device.now models a.commands.now a.src.now is.net is.device is.scans))
     c.put_text.ensures.part
 
@@ -24,6 +27,9 @@ returns-clause-whole g c =
     let playing = c.in_ok-playing.playing in
     let is = c.in_ok-playing.ensures in
     on_both c.put_text.result
-    (all_of (g.S.Shelf.files a.shelf.now) (g.S.Shelf.files c.begin.new.self) (g.S.Shelf.files c.put_text.new.shelf) a.name.now c.new-piece.result (explained (left_notes playing) a.src.now) (explained_text a.net.now a.device.now models a.commands.now a.src.now) c.new-piece.ensures c.in_ok-begin.ensures.empty
+    (all_of (g.S.Shelf.files a.shelf.now) (g.S.Shelf.files c.begin.new.self)
+    (g.S.Shelf.files c.put_text.new.shelf) a.name.now c.new-piece.result
+    (explained (left_notes playing) a.src.now) (explained_text a.net.now a.device.now models
+    a.commands.now a.src.now) c.new-piece.ensures c.in_ok-begin.ensures.empty
     (start_text playing a.net.now a.device.now models a.commands.now a.src.now is.net is.device is.scans))
     c.put_text.ensures.whole c.put_text.ensures.there

@@ -13,7 +13,9 @@ abbrev pub invariant-loop-next : goal.invariant-loop-next
 invariant-loop-next g l =
     record {
       playing : IsPlaying l.playing;
-      front : AddsFront (with_piece (g.S.Shelf.files l.fn.shelf) l.name l.fn.piece) (with_piece (g.S.Shelf.files l.shelf) l.name l.piece) (explained (left_notes l.playing) l.rest) (explained (left_notes l.fn.playing) l.src);
+      front : AddsFront (with_piece (g.S.Shelf.files l.fn.shelf) l.name l.fn.piece)
+          (with_piece (g.S.Shelf.files l.shelf) l.name l.piece) (explained (left_notes l.playing) l.rest)
+          (explained (left_notes l.fn.playing) l.src);
       there : IsThere (g.S.Shelf.files l.shelf) l.name;
       others : OthersStay (g.S.Shelf.files l.fn.shelf) (g.S.Shelf.files l.shelf) l.name;
       later : Later l.name (g.S.Shelf.store_faults l.fn.shelf) (g.S.Shelf.store_faults l.shelf);

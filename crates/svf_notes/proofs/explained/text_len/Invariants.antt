@@ -8,7 +8,8 @@ abbrev pub invariant-loop-next : goal.invariant-loop-next
 invariant-loop-next l =
     record {
       playing : IsPlaying l.playing;
-      len : min (l.len + length (explained (left_notes l.playing) l.rest)) (2 ^ 64 - 1) ≡ min (length (explained (left_notes l.fn.playing) l.src)) (2 ^ 64 - 1);
+      len : min (l.len + length (explained (left_notes l.playing) l.rest)) (2 ^ 64 - 1)
+          ≡ min (length (explained (left_notes l.fn.playing) l.src)) (2 ^ 64 - 1);
     }
 
 abbrev pub decreases-loop-next : goal.decreases-loop-next

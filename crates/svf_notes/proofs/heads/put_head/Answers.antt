@@ -6,4 +6,8 @@ use Rattle.svf_notes.proofs.heads.put_head.Goals as goal
 pub put_positions-requires : goal.put_positions-requires
 put_positions-requires c =
     let net = c.args.net.now in
-    omega (arith, wide_at net net.regs.items c.args.reg c.requires.well_formed.regs c.requires.there, width_at net.regs.items c.args.reg c.get.result.now c.requires.there c.get.ensures)
+    omega (
+      arith,
+      wide_at net net.regs.items c.args.reg c.requires.well_formed.regs c.requires.there,
+      width_at net.regs.items c.args.reg c.get.result.now c.requires.there c.get.ensures,
+    )

@@ -12,6 +12,8 @@ loop-j-preserved c =
     let more : n ≡ suc m = omega arith in
     let place : c.args.n - 1 - c.loop-j.j ≡ m = omega arith in
     let is : c.hex_digit.result ≡ hex_digit bits m = c.hex_digit.ensures ∙ ap (hex_digit bits) place in
-    let here : hex_digits bits n ≡ (c.hex_digit.result ∷ []) ++ hex_digits bits m = ap (hex_digits bits) more ∙ ap (λ (d : ℕ). d ∷ hex_digits bits m) (sym is) in
+    let here : hex_digits bits n ≡ (c.hex_digit.result ∷ []) ++ hex_digits bits m =
+    ap (hex_digits bits) more ∙ ap (λ (d : ℕ). d ∷ hex_digits bits m) (sym is) in
     front_next (c.hex_digit.result ∷ []) (hex_digits bits m)
-    (subst (λ (r : List ℕ). AddsFront (Some c.args.note.now) (Some c.loop-j.note) r (hex_digits bits c.args.n)) here c.loop-j.invariant) c.in_ok-write.ensures.whole
+    (subst (λ (r : List ℕ). AddsFront (Some c.args.note.now) (Some c.loop-j.note) r
+    (hex_digits bits c.args.n)) here c.loop-j.invariant) c.in_ok-write.ensures.whole

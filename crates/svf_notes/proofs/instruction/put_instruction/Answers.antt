@@ -14,5 +14,7 @@ returns-else-count-ir c =
     let count : c.from-count.result ≡ length bits = grind (arith, nat_tests) in
     let same : c.from-ir.result ≡ device.ir = grind (arith, nat_tests) in
     whole_as c.put_other_length.result (Some c.args.note.now) (Some c.put_other_length.new.note)
-    (ap (λ (n : ℕ). other_length register n c.from-ir.result) count ∙ ap (λ (n : ℕ). other_length register (length bits) n) same ∙ sym (ap (λ k. cond k (opcode_text device (tdi_bits bits)) (other_length register (length bits) device.ir)) other))
+    (ap (λ (n : ℕ). other_length register n c.from-ir.result) count
+    ∙ ap (λ (n : ℕ). other_length register (length bits) n) same ∙ sym (ap (λ k. cond k
+    (opcode_text device (tdi_bits bits)) (other_length register (length bits) device.ir)) other))
     c.put_other_length.ensures

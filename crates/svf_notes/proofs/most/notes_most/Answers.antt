@@ -12,7 +12,9 @@ loop-i-preserved c =
     let inside : i < length cs = omega (arith, c.loop-i-test.true, c.len-i-end.ensures.count) in
     let rest = drop (suc i) cs in
     let next = drop-cons cs i command inside ∙ ap (λ (x : SeenCommand). x ∷ rest) (sym c.get.ensures) in
-    let sum : most_of c.args.device.now c.args.regs c.args.name (drop i cs) ≡ most_of_command c.args.device.now c.args.regs c.args.name command + most_of c.args.device.now c.args.regs c.args.name rest =
+    let sum : most_of c.args.device.now c.args.regs c.args.name (drop i cs)
+    ≡ most_of_command c.args.device.now c.args.regs c.args.name command
+    + most_of c.args.device.now c.args.regs c.args.name rest =
     ap (most_of c.args.device.now c.args.regs c.args.name) next in
     let more : i + 1 ≡ suc i = omega arith in
     let same = ap (λ (n : ℕ). most_of c.args.device.now c.args.regs c.args.name (drop n cs)) more in

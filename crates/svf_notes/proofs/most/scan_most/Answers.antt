@@ -6,4 +6,10 @@ use Rattle.svf_notes.proofs.most.scan_most.Goals as goal
 pub returns : goal.returns
 unfolding most_of_scan
 returns c =
-    omega (arith, ten_digits c.args.device.now.ir (omega arith), ten_digits c.args.bits (omega arith), c.names_most.ensures, c.saturating_add.ensures)
+    omega (
+      arith,
+      ten_digits c.args.device.now.ir (omega arith),
+      ten_digits c.args.bits (omega arith),
+      c.names_most.ensures,
+      c.saturating_add.ensures,
+    )

@@ -10,6 +10,10 @@ pub route_len-requires-clause-few : goal.route_len-requires-clause-few
 route_len-requires-clause-few c =
     let net = c.args.net.now in
     let holds = c.holds.result.now in
-    let held : AreHolds net holds = subst (λ (n : Net). AreHolds n holds) c.requires.net c.holds.ensures.shape in
-    let path : c.as_slice.result.now ≡ route_of net holds = c.as_slice.ensures ∙ c.path.ensures.path ∙ ap (λ (n : Net). route_of n c.args.bench.now.state.holds) c.requires.net ∙ ap (route_of net) (sym c.holds.ensures.holds) in
-    subst (λ (p : List ℕ). length (chain p holds) ≤ 4096) (sym path) (path_short net holds c.requires.well_formed held)
+    let held : AreHolds net holds =
+    subst (λ (n : Net). AreHolds n holds) c.requires.net c.holds.ensures.shape in
+    let path : c.as_slice.result.now ≡ route_of net holds = c.as_slice.ensures ∙ c.path.ensures.path
+    ∙ ap (λ (n : Net). route_of n c.args.bench.now.state.holds) c.requires.net
+    ∙ ap (route_of net) (sym c.holds.ensures.holds) in
+    subst (λ (p : List ℕ). length (chain p holds) ≤ 4096) (sym path)
+    (path_short net holds c.requires.well_formed held)

@@ -12,11 +12,14 @@ put_rows-requires-clause-well_formed c = subst IsNet (sym c.requires.heads) c.re
 
 pub put_rows-requires-clause-holds : goal.put_rows-requires-clause-holds
 put_rows-requires-clause-holds c =
-    subst (λ (n : Net). AreHolds n c.holds.result.now) (c.requires.net ∙ sym c.requires.heads) c.holds.ensures.shape
+    subst (λ (n : Net). AreHolds n c.holds.result.now)
+    (c.requires.net ∙ sym c.requires.heads) c.holds.ensures.shape
 
 pub put_rows-requires-clause-route : goal.put_rows-requires-clause-route
 put_rows-requires-clause-route c =
     let net = c.args.net.now in
     let holds = c.args.bench.now.state.holds in
-    let path : c.as_slice.result.now ≡ route_of net holds = c.as_slice.ensures ∙ c.path.ensures.path ∙ ap (λ (n : Net). route_of n holds) c.requires.net in
-    subst (λ (n : Net). IsRoute (length n.regs.items) c.as_slice.result.now) (sym c.requires.heads) (subst (IsRoute (length net.regs.items)) (sym path) (route_is net holds c.requires.well_formed))
+    let path : c.as_slice.result.now ≡ route_of net holds =
+    c.as_slice.ensures ∙ c.path.ensures.path ∙ ap (λ (n : Net). route_of n holds) c.requires.net in
+    subst (λ (n : Net). IsRoute (length n.regs.items) c.as_slice.result.now) (sym c.requires.heads)
+    (subst (IsRoute (length net.regs.items)) (sym path) (route_is net holds c.requires.well_formed))

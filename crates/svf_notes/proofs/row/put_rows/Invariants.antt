@@ -12,5 +12,6 @@ invariant-loop-j l =
       end : l.end ≡ length (chain (take i l.path) l.holds);
       within : l.end ≤ length l.bits.items;
       same : l.heads ≡ l.fn.heads;
-      rows : Adds (Some l.fn.note) (Some l.note) (note_text (rows l.fn.heads l.holds l.end (drop i l.path) (drop l.end l.bits.items)));
+      rows : Adds (Some l.fn.note) (Some l.note)
+          (note_text (rows l.fn.heads l.holds l.end (drop i l.path) (drop l.end l.bits.items)));
     }

@@ -10,7 +10,8 @@ invariant-loop-played l =
     let chip = chip_of l.fn.bench in
     record {
       same : l.bench ≡ record l.fn.bench { state = l.bench.state };
-      left : led l.bits.items (scans_of chip l.player.pins l.bench.state) ≡ scans_of chip l.fn.player.pins l.fn.bench.state;
+      left : led l.bits.items (scans_of chip l.player.pins l.bench.state)
+          ≡ scans_of chip l.fn.player.pins l.fn.bench.state;
     }
 
 abbrev pub decreases-loop-played : goal.decreases-loop-played

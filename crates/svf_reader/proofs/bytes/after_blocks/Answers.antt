@@ -12,7 +12,8 @@ loop-rest-preserved c =
     let size = c.args.size in
     let long : size ≤ length rest = omega (arith, c.loop-rest-test.true) in
     let passed : list_all (is_passed class) (take size rest) ≡ true =
-    ap (list_all (is_passed class)) (sym c.split_at.ensures.front) ∙ sym c.all_passed.ensures ∙ c.if-not-all_passed.false in
+    ap (list_all (is_passed class)) (sym c.split_at.ensures.front)
+    ∙ sym c.all_passed.ensures ∙ c.if-not-all_passed.false in
     let step = pass_many class size rest long passed in
     let back = ap (run_length class false) c.split_at.ensures.back in
     record {

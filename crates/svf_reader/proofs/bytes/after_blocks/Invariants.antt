@@ -4,7 +4,8 @@ use Rattle.svf_reader.proofs.bytes.after_blocks.Given as goal
 
 abbrev pub invariant-loop-rest : goal.invariant-loop-rest
 invariant-loop-rest l = record {
-  value : run_length l.class false l.fn.text + length l.rest ≡ length l.fn.text + run_length l.class false l.rest;
+  value : run_length l.class false l.fn.text + length l.rest
+      ≡ length l.fn.text + run_length l.class false l.rest;
   within : length l.rest ≤ length l.fn.text;
 }
 

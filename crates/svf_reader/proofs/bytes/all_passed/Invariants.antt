@@ -5,4 +5,5 @@ use Rattle.svf_reader.specs.Passed.{is_passed}
 use Rattle.svf_reader.proofs.bytes.all_passed.Given as goal
 
 abbrev pub invariant-loop-b : goal.invariant-loop-b
-invariant-loop-b l = (l.all && list_all (is_passed l.class) (drop l.b-index l.block)) ≡ list_all (is_passed l.class) l.block
+invariant-loop-b l = (l.all && list_all (is_passed l.class) (drop l.b-index l.block))
+    ≡ list_all (is_passed l.class) l.block

@@ -11,5 +11,6 @@ loop-n-preserved c =
     let n = c.loop-n.n in
     let there = byte_there text n c.byte_at-b.result c.loop-n-test.true c.byte_at-b.ensures in
     let goes : run_length class false (drop n text) ≡ suc (run_length class false (drop (n + 1) text)) =
-    ap (run_length class false) there ∙ pass_one class c.byte_at-b.result (drop (n + 1) text) (sym c.is_passed.ensures ∙ c.if-not-is_passed.false) in
+    ap (run_length class false) there ∙ pass_one class c.byte_at-b.result (drop (n + 1) text)
+    (sym c.is_passed.ensures ∙ c.if-not-is_passed.false) in
     record { within = omega arith; so_far = omega (arith, goes, c.loop-n.invariant.so_far) }

@@ -4,4 +4,5 @@ use Rattle.svf_reader.proofs.bytes.rest_len.Goals as goal
 
 pub returns-then-is_end-clause-value : goal.returns-then-is_end-clause-value
 returns-then-is_end-clause-value c =
-    ends_here c.args.class c.args.text.now c.byte_at-b.result c.byte_at-b.ensures (sym c.is_end.ensures ∙ c.if-is_end.true)
+    ends_here c.args.class c.args.text.now c.byte_at-b.result c.byte_at-b.ensures
+    (sym c.is_end.ensures ∙ c.if-is_end.true)

@@ -11,4 +11,5 @@ returns-then-is_close-clause-digits c =
     let rest = words_of c.in_ok-end.end.rest.now in
     sym (ap hex_digits c.in_ok-first.ensures.value
     ∙ ap (λ ws. hex_digits (first ∷ ws)) c.in_ok-end.ensures.value
-    ∙ hex_alone first end rest (sym c.all_hex.ensures ∙ c.if-not-all_hex.false) (sym c.is_close.ensures ∙ c.if-is_close.true))
+    ∙ hex_alone first end rest (sym c.all_hex.ensures ∙ c.if-not-all_hex.false)
+    (sym c.is_close.ensures ∙ c.if-is_close.true))

@@ -16,7 +16,10 @@ unfolding agree_below
 agree_at f g zero h b lt = absurd (omega arith)
 agree_at f g (suc n) h b lt =
     let both = and_parts (f n == g n) (agree_below f g n) h in
-    elim (cases_eq b n) [ inl same ↦ rw same (eqb-true (f n) (g n) both.0) | inr other ↦ agree_at f g n both.1 b (omega arith) ]
+    elim (cases_eq b n) [
+      | inl same ↦ rw same (eqb-true (f n) (g n) both.0)
+      | inr other ↦ agree_at f g n both.1 b (omega arith)
+    ]
 
 from_table : (table : List ℕ) (b : ℕ) → b < 256
     → agree_below (λ k. get_or table k 0) (λ k. digit_value k % 16) 256 ≡ true

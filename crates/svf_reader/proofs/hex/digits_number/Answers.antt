@@ -19,7 +19,8 @@ loop-d-preserved c =
     let digits = c.args.digits.now in
     let i = c.loop-d.d-index in
     let v = digit_value (get_or digits i 0) in
-    let more : number_of (hex_bits (take (i + 1) digits)) ≡ 16 * number_of (hex_bits (take i digits)) + v % 16 =
+    let more : number_of (hex_bits (take (i + 1) digits))
+    ≡ 16 * number_of (hex_bits (take i digits)) + v % 16 =
     ap number_of (hex_bits-more digits i (omega arith)) ∙ digit_front v (hex_bits (take i digits)) in
     let here : c.from.result ≡ v % 16 = c.from.ensures ∙ c.digit_value.ensures.value in
     let one : i + 1 ≡ suc i = omega arith in

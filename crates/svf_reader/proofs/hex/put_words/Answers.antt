@@ -25,13 +25,22 @@ loop-parts-preserved c =
     let rest = c.loop-parts.rest.now in
     let front = c.split_last-parts.result.front.now in
     let last = c.split_last-parts.result.last.now in
-    let parts : InParts rest front last = record { all = c.split_last-parts.ensures.all; few = c.split_last-parts.ensures.few; lone = c.split_last-parts.ensures.front } in
+    let parts : InParts rest front last = record {
+      all = c.split_last-parts.ensures.all;
+      few = c.split_last-parts.ensures.few;
+      lone = c.split_last-parts.ensures.front;
+    } in
     let new = c.append_number_reserved.new.self.items in
-    let is : new ≡ old ++ bits_of 64 (number_of (hex_bits last)) = c.append_number_reserved.ensures.items ∙ ap (λ v. old ++ bits_of 64 v) c.digits_number.ensures in
-    let long : length new ≡ k + 64 = ap length is ∙ length-append old (bits_of 64 (number_of (hex_bits last))) ∙ ap (λ n. k + n) (length-bits_of 64 (number_of (hex_bits last))) in
-    let added : bits_of 64 (number_of (hex_bits last)) ≡ fitted 64 (drop k all) = sym (ap (fitted 64) c.loop-parts.invariant.left ∙ last_bits 64 rest front last parts (omega arith)) in
+    let is : new ≡ old ++ bits_of 64 (number_of (hex_bits last)) =
+    c.append_number_reserved.ensures.items ∙ ap (λ v. old ++ bits_of 64 v) c.digits_number.ensures in
+    let long : length new ≡ k + 64 = ap length is ∙ length-append old (bits_of 64 (number_of (hex_bits last)))
+    ∙ ap (λ n. k + n) (length-bits_of 64 (number_of (hex_bits last))) in
+    let added : bits_of 64 (number_of (hex_bits last)) ≡ fitted 64 (drop k all) =
+    sym (ap (fitted 64) c.loop-parts.invariant.left ∙ last_bits 64 rest front last parts (omega arith)) in
     record {
-      items = is ∙ ap (λ (l : List Bool). l ++ bits_of 64 (number_of (hex_bits last))) c.loop-parts.invariant.items ∙ ap (λ (l : List Bool). fitted k all ++ l) added ∙ sym (fitted_more k 64 all) ∙ ap (λ n. fitted n all) (sym long);
+      items = is ∙ ap (λ (l : List Bool). l ++ bits_of 64 (number_of (hex_bits last)))
+          c.loop-parts.invariant.items ∙ ap (λ (l : List Bool). fitted k all ++ l) added
+          ∙ sym (fitted_more k 64 all) ∙ ap (λ n. fitted n all) (sym long);
       left = ap (λ n. drop n all) long ∙ left_more k all rest front last parts c.loop-parts.invariant.left;
       within = omega (arith, long, c.loop-parts-test.true, c.len.ensures, c.loop-parts.invariant.within);
       room = omega (arith, long, c.loop-parts.invariant.room, c.append_number_reserved.ensures.spare);

@@ -5,4 +5,5 @@ use Rattle.svf_reader.proofs.meaning.read_command.Goals as goal
 
 pub returns-in_default : goal.returns-in_default
 unfolding words_of
-returns-in_default c = nothing_read c.args.kept c.args.ended (plain c.args.text.now) c.in_default.ensures.value
+returns-in_default c =
+    nothing_read c.args.kept c.args.ended (plain c.args.text.now) c.in_default.ensures.value

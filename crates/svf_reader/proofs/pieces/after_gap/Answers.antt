@@ -7,15 +7,19 @@ use Rattle.svf_reader.proofs.pieces.after_gap.Goals as goal
 
 pub returns-clause-words : goal.returns-clause-words
 returns-clause-words c =
-    word_gap c.args.text.now ∙ ap (λ n. words_of (drop n c.args.text.now)) (sym c.gap_len.ensures.value) ∙ ap words_of (sym c.split_at.ensures.back)
+    word_gap c.args.text.now ∙ ap (λ n. words_of (drop n c.args.text.now)) (sym c.gap_len.ensures.value)
+    ∙ ap words_of (sym c.split_at.ensures.back)
 
 pub returns-clause-runs : goal.returns-clause-runs
 returns-clause-runs c =
-    run_gap c.args.text.now ∙ ap (λ n. runs_of (drop n c.args.text.now)) (sym c.gap_len.ensures.value) ∙ ap runs_of (sym c.split_at.ensures.back)
+    run_gap c.args.text.now ∙ ap (λ n. runs_of (drop n c.args.text.now)) (sym c.gap_len.ensures.value)
+    ∙ ap runs_of (sym c.split_at.ensures.back)
 
 pub returns-clause-after : goal.returns-clause-after
 returns-clause-after c =
-    after_gap c.args.text.now ∙ ap (λ n. after_word (plain (drop n c.args.text.now))) (sym c.gap_len.ensures.value) ∙ ap (λ (t : List ℕ). after_word (plain t)) (sym c.split_at.ensures.back)
+    after_gap c.args.text.now
+    ∙ ap (λ n. after_word (plain (drop n c.args.text.now))) (sym c.gap_len.ensures.value)
+    ∙ ap (λ (t : List ℕ). after_word (plain t)) (sym c.split_at.ensures.back)
 
 pub returns-clause-stops : goal.returns-clause-stops
 returns-clause-stops c =

@@ -15,7 +15,8 @@ pub returns-clause-value : goal.returns-clause-value
 returns-clause-value c =
     let text = c.after_gap-text.result.now in
     let some : 1 ≤ length text = grind (arith, nat_tests) in
-    let front = next_word_is text c.word_len.result some c.after_gap-text.ensures.stops c.word_len.ensures.value in
+    let front =
+    next_word_is text c.word_len.result some c.after_gap-text.ensures.stops c.word_len.ensures.value in
     c.after_gap-text.ensures.words ∙ front.is
     ∙ ap (λ (w : List ℕ). w ∷ words_of (drop c.word_len.result text)) (sym c.split_at.ensures.front)
     ∙ ap (λ (r : List ℕ). c.split_at.result.0.now ∷ words_of r) (sym c.split_at.ensures.back)
@@ -31,5 +32,6 @@ pub returns-clause-shorter : goal.returns-clause-shorter
 returns-clause-shorter c =
     let text = c.after_gap-text.result.now in
     let some : 1 ≤ length text = grind (arith, nat_tests) in
-    let front = next_word_is text c.word_len.result some c.after_gap-text.ensures.stops c.word_len.ensures.value in
+    let front =
+    next_word_is text c.word_len.result some c.after_gap-text.ensures.stops c.word_len.ensures.value in
     omega (arith, front.some, c.after_gap-text.ensures.shorter, c.split_at.ensures.back_len)

@@ -6,4 +6,5 @@ use Rattle.svf_reader.proofs.reading.command_place.Goals as goal
 pub returns : goal.returns
 returns c =
     c.place_at.ensures
-    ∙ ap (λ n. place_at c.args.src.now (length c.args.src.now - c.args.left + n)) (c.run_len.ensures.value ∙ sym (blanks_are false c.args.text.now))
+    ∙ ap (λ n. place_at c.args.src.now (length c.args.src.now - c.args.left + n))
+    (c.run_len.ensures.value ∙ sym (blanks_are false c.args.text.now))

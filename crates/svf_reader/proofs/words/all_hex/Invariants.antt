@@ -5,4 +5,5 @@ use Rattle.std.specs.Char.{is_ascii_hexdigit}
 use Rattle.svf_reader.proofs.words.all_hex.Given as goal
 
 abbrev pub invariant-loop-b : goal.invariant-loop-b
-invariant-loop-b l = (l.all && list_all is_ascii_hexdigit (drop l.b-index l.word)) ≡ list_all is_ascii_hexdigit l.word
+invariant-loop-b l = (l.all && list_all is_ascii_hexdigit (drop l.b-index l.word))
+    ≡ list_all is_ascii_hexdigit l.word

@@ -8,7 +8,8 @@ use Rattle.svf_writer.proofs.part.bits_of_number.Goals as goal
 pub returns-clause-bits : goal.returns-clause-bits
 returns-clause-bits c k low =
     let x = c.args.number / 2 ^ c.args.from in
-    ap (λ y. bit_at y k == 1) (lowest x c.args.n (omega arith)) ∙ ap (λ y. y == 1) (low_bit x c.args.n k low ∙ down c.args.number c.args.from k)
+    ap (λ y. bit_at y k == 1) (lowest x c.args.n (omega arith))
+    ∙ ap (λ y. y == 1) (low_bit x c.args.n k low ∙ down c.args.number c.args.from k)
 
 pub returns-clause-small : goal.returns-clause-small
 returns-clause-small c =

@@ -7,13 +7,16 @@ use Rattle.svf_writer.proofs.write.put_number.Goals as goal
 
 pub returns-in_err-write-clause-part : goal.returns-in_err-write-clause-part
 returns-in_err-write-clause-part g c =
-    at_refusal c.from_residual.result (adds_front (hex_text (bits_of c.args.count c.args.bits) ++ codes ")") c.in_err-write.ensures.part)
+    at_refusal c.from_residual.result
+    (adds_front (hex_text (bits_of c.args.count c.args.bits) ++ codes ")") c.in_err-write.ensures.part)
 
 pub returns-in_err-put_opcode-clause-part : goal.returns-in_err-put_opcode-clause-part
 returns-in_err-put_opcode-clause-part g c =
-    at_refusal c.from_residual-in_err-put_opcode.result (adds_then_part c.in_ok-write.ensures.whole (adds_front (codes ")") c.in_err-put_opcode.ensures.part))
+    at_refusal c.from_residual-in_err-put_opcode.result
+    (adds_then_part c.in_ok-write.ensures.whole (adds_front (codes ")") c.in_err-put_opcode.ensures.part))
 
 pub returns-in_err-write-2-clause-part : goal.returns-in_err-write-2-clause-part
 returns-in_err-write-2-clause-part g c =
     at_refusal c.from_residual-in_err-write-2.result
-    (adds_then_part c.in_ok-write.ensures.whole (adds_then_part c.in_ok-put_opcode.ensures.whole c.in_err-write-2.ensures.part))
+    (adds_then_part c.in_ok-write.ensures.whole
+    (adds_then_part c.in_ok-put_opcode.ensures.whole c.in_err-write-2.ensures.part))

@@ -8,4 +8,5 @@ use Rattle.table_file.proofs.adding.compared_width.Goals as goal
 pub returns-clause-few : goal.returns-clause-few
 returns-clause-few c =
     let m = seen_model c.args.m.now in
-    subst (λ (n : ℕ). n ≤ 64) (sym c.cond_width.ensures) (few m (known (cond_operand m (seen_cond c.args.c.now))) c.requires.narrow)
+    subst (λ (n : ℕ). n ≤ 64) (sym c.cond_width.ensures)
+    (few m (known (cond_operand m (seen_cond c.args.c.now))) c.requires.narrow)

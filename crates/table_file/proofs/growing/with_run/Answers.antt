@@ -5,4 +5,5 @@ use Rattle.table_file.proofs.growing.with_run.Goals as goal
 
 pub row_said-requires-clause-few : goal.row_said-requires-clause-few
 row_said-requires-clause-few c =
-    few_sets (seen_model c.args.m.now) c.args.row.now.sets.items c.requires.small.narrow (or_right_false _ _ c.requires.width)
+    few_sets (seen_model c.args.m.now) c.args.row.now.sets.items c.requires.small.narrow
+    (or_right_false _ _ c.requires.width)

@@ -8,4 +8,5 @@ use Rattle.table_file.proofs.names.any_cond_fault.Given as goal
 
 abbrev pub invariant-loop-c : goal.invariant-loop-c
 invariant-loop-c l =
-    list_any (λ c. not (is_some (cond_operand (seen_model l.m) c))) (map seen_cond (drop l.c-index l.conds)) ≡ list_any (λ c. not (is_some (cond_operand (seen_model l.m) c))) (map seen_cond l.conds)
+    list_any (λ c. not (is_some (cond_operand (seen_model l.m) c))) (map seen_cond (drop l.c-index l.conds))
+    ≡ list_any (λ c. not (is_some (cond_operand (seen_model l.m) c))) (map seen_cond l.conds)

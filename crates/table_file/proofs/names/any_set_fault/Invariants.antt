@@ -8,4 +8,6 @@ use Rattle.table_file.proofs.names.any_set_fault.Given as goal
 
 abbrev pub invariant-loop-x : goal.invariant-loop-x
 invariant-loop-x l =
-    list_any (λ x. no_slot (seen_model l.m) x.slot || no_amount (seen_model l.m) x.amount) (map seen_set (drop l.x-index l.sets)) ≡ list_any (λ x. no_slot (seen_model l.m) x.slot || no_amount (seen_model l.m) x.amount) (map seen_set l.sets)
+    list_any (λ x. no_slot (seen_model l.m) x.slot || no_amount (seen_model l.m) x.amount)
+    (map seen_set (drop l.x-index l.sets)) ≡ list_any
+    (λ x. no_slot (seen_model l.m) x.slot || no_amount (seen_model l.m) x.amount) (map seen_set l.sets)

@@ -5,4 +5,5 @@ use Rattle.table_file.proofs.names.find_input.Given as goal
 
 abbrev pub invariant-loop-i : goal.invariant-loop-i
 invariant-loop-i l =
-    named_from l.i l.name (map (λ d. d.name) (map seen_port (drop l.i l.ins))) ≡ named l.name (map (λ d. d.name) (map seen_port l.ins))
+    named_from l.i l.name (map (λ d. d.name) (map seen_port (drop l.i l.ins)))
+    ≡ named l.name (map (λ d. d.name) (map seen_port l.ins))

@@ -5,4 +5,5 @@ use Rattle.table_file.proofs.names.find_word.Given as goal
 
 abbrev pub invariant-loop-i : goal.invariant-loop-i
 invariant-loop-i l =
-    named_from l.i l.name (map (λ d. d.name) (map seen_word (drop l.i l.words))) ≡ named l.name (map (λ d. d.name) (map seen_word l.words))
+    named_from l.i l.name (map (λ d. d.name) (map seen_word (drop l.i l.words)))
+    ≡ named l.name (map (λ d. d.name) (map seen_word l.words))

@@ -5,4 +5,5 @@ use Rattle.table_file.proofs.names.has_input.Given as goal
 
 abbrev pub invariant-loop-d : goal.invariant-loop-d
 invariant-loop-d l =
-    stands_in l.name (map (λ d. d.name) (map seen_port (drop l.d-index l.ins))) ≡ stands_in l.name (map (λ d. d.name) (map seen_port l.ins))
+    stands_in l.name (map (λ d. d.name) (map seen_port (drop l.d-index l.ins)))
+    ≡ stands_in l.name (map (λ d. d.name) (map seen_port l.ins))

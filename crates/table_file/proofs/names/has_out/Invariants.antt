@@ -5,4 +5,5 @@ use Rattle.table_file.proofs.names.has_out.Given as goal
 
 abbrev pub invariant-loop-d : goal.invariant-loop-d
 invariant-loop-d l =
-    stands_in l.name (map (λ d. d.name) (map seen_out (drop l.d-index l.outs))) ≡ stands_in l.name (map (λ d. d.name) (map seen_out l.outs))
+    stands_in l.name (map (λ d. d.name) (map seen_out (drop l.d-index l.outs)))
+    ≡ stands_in l.name (map (λ d. d.name) (map seen_out l.outs))

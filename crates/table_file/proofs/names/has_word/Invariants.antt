@@ -5,4 +5,5 @@ use Rattle.table_file.proofs.names.has_word.Given as goal
 
 abbrev pub invariant-loop-d : goal.invariant-loop-d
 invariant-loop-d l =
-    stands_in l.name (map (λ d. d.name) (map seen_word (drop l.d-index l.words))) ≡ stands_in l.name (map (λ d. d.name) (map seen_word l.words))
+    stands_in l.name (map (λ d. d.name) (map seen_word (drop l.d-index l.words)))
+    ≡ stands_in l.name (map (λ d. d.name) (map seen_word l.words))

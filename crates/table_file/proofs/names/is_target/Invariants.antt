@@ -5,4 +5,5 @@ use Rattle.table_file.proofs.names.is_target.Given as goal
 
 abbrev pub invariant-loop-x : goal.invariant-loop-x
 invariant-loop-x l =
-    stands_in l.name (map (λ x. target x.slot) (map seen_set (drop l.x-index l.sets))) ≡ stands_in l.name (map (λ x. target x.slot) (map seen_set l.sets))
+    stands_in l.name (map (λ x. target x.slot) (map seen_set (drop l.x-index l.sets)))
+    ≡ stands_in l.name (map (λ x. target x.slot) (map seen_set l.sets))

@@ -5,4 +5,5 @@ use Rattle.table_file.proofs.names.set_twice.Given as goal
 
 abbrev pub invariant-loop-i : goal.invariant-loop-i
 invariant-loop-i l =
-    has_twice (map (λ x. target x.slot) (map seen_set (drop l.i l.sets))) ≡ has_twice (map (λ x. target x.slot) (map seen_set l.sets))
+    has_twice (map (λ x. target x.slot) (map seen_set (drop l.i l.sets)))
+    ≡ has_twice (map (λ x. target x.slot) (map seen_set l.sets))

@@ -8,4 +8,5 @@ use Rattle.table_file.proofs.widths.any_cond_wide.Given as goal
 
 abbrev pub invariant-loop-c : goal.invariant-loop-c
 invariant-loop-c l =
-    list_any (λ c. is_wide (cond_width (seen_model l.m) c) c.number) (map seen_cond (drop l.c-index l.conds)) ≡ list_any (λ c. is_wide (cond_width (seen_model l.m) c) c.number) (map seen_cond l.conds)
+    list_any (λ c. is_wide (cond_width (seen_model l.m) c) c.number) (map seen_cond (drop l.c-index l.conds))
+    ≡ list_any (λ c. is_wide (cond_width (seen_model l.m) c) c.number) (map seen_cond l.conds)

@@ -7,4 +7,6 @@ use Rattle.table_file.proofs.widths.any_set_wide.Given as goal
 
 abbrev pub invariant-loop-x : goal.invariant-loop-x
 invariant-loop-x l =
-    list_any (λ x. amount_width (seen_model l.m) (slot_width (seen_model l.m) x.slot) x.amount) (map seen_set (drop l.x-index l.sets)) ≡ list_any (λ x. amount_width (seen_model l.m) (slot_width (seen_model l.m) x.slot) x.amount) (map seen_set l.sets)
+    list_any (λ x. amount_width (seen_model l.m) (slot_width (seen_model l.m) x.slot) x.amount)
+    (map seen_set (drop l.x-index l.sets)) ≡ list_any (λ x. amount_width (seen_model l.m)
+    (slot_width (seen_model l.m) x.slot) x.amount) (map seen_set l.sets)

@@ -8,9 +8,11 @@ use Rattle.table_lines.proofs.bytes.after_blanks.Goals as goal
 pub returns-clause-words : goal.returns-clause-words
 returns-clause-words c =
     let text = c.args.text.now in
-    after_blanks_is text ∙ ap (λ n. words (drop n text)) (sym c.run_len.ensures.value) ∙ ap words (sym c.split_at.ensures.back)
+    after_blanks_is text ∙ ap (λ n. words (drop n text)) (sym c.run_len.ensures.value)
+    ∙ ap words (sym c.split_at.ensures.back)
 
 pub returns-clause-stops : goal.returns-clause-stops
 returns-clause-stops c =
     let text = c.args.text.now in
-    ap (run_length Blank) c.split_at.ensures.back ∙ ap (λ n. run_length Blank (drop n text)) c.run_len.ensures.value ∙ no_more_blanks text
+    ap (run_length Blank) c.split_at.ensures.back
+    ∙ ap (λ n. run_length Blank (drop n text)) c.run_len.ensures.value ∙ no_more_blanks text

@@ -4,7 +4,8 @@ use Rattle.table_lines.proofs.lines.cut_line.Goals as goal
 
 pub returns-in-Some-clause-lines : goal.returns-in-Some-clause-lines
 returns-in-Some-clause-lines c =
-    line_cut c.args.text.now c.cut_at-cut.result.front.now c.in-Some.after.now (rw c.in-Some.is at c.cut_at-cut.ensures.pieces)
+    line_cut c.args.text.now c.cut_at-cut.result.front.now c.in-Some.after.now
+    (rw c.in-Some.is at c.cut_at-cut.ensures.pieces)
 
 pub returns-in-None-clause-lines : goal.returns-in-None-clause-lines
 returns-in-None-clause-lines c =

@@ -7,7 +7,8 @@ loop-after-preserved c =
     let one = rw c.in-Some.is at c.cut_at.ensures.pieces in
     let whole = rw c.in-Some.is at c.cut_at.ensures.whole in
     record {
-      so_far = end_next c.loop-after.line c.loop-after.rest.now c.cut_at.result.front.now c.in-Some.after.now one ∙ c.loop-after.invariant.so_far;
+      so_far = end_next c.loop-after.line c.loop-after.rest.now c.cut_at.result.front.now
+          c.in-Some.after.now one ∙ c.loop-after.invariant.so_far;
       fits = omega (arith, whole, c.loop-after.invariant.fits);
     }
 
@@ -15,4 +16,5 @@ pub returns : goal.returns
 returns c =
     let one = rw c.in_default.is at c.cut_at.ensures.pieces in
     let all = rw c.in_default.is at c.cut_at.ensures.whole in
-    end_last c.loop-after.line c.loop-after.rest.now c.args.text.now (one ∙ ap (λ (front : List ℕ). front ∷ []) all) c.loop-after.invariant.so_far
+    end_last c.loop-after.line c.loop-after.rest.now c.args.text.now
+    (one ∙ ap (λ (front : List ℕ). front ∷ []) all) c.loop-after.invariant.so_far

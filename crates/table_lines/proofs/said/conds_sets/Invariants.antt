@@ -6,7 +6,8 @@ use Rattle.table_lines.proofs.said.conds_sets.Given as goal
 
 abbrev pub invariant-loop-conds : goal.invariant-loop-conds
 invariant-loop-conds l =
-    with_conds (map seen_cond l.conds.items) (conds_sets l.second l.change (part_list l.part)) ≡ conds_sets l.second l.change (part_list l.fn.first)
+    with_conds (map seen_cond l.conds.items) (conds_sets l.second l.change (part_list l.part))
+    ≡ conds_sets l.second l.change (part_list l.fn.first)
 
 abbrev pub decreases-loop-conds : goal.decreases-loop-conds
 decreases-loop-conds l = words_after l.part.after

@@ -7,7 +7,8 @@ use Rattle.table_lines.proofs.said.sets.Given as goal
 
 abbrev pub invariant-loop-all : goal.invariant-loop-all
 invariant-loop-all l =
-    option_map (λ xs. map seen_set l.all.items ++ xs) (sets l.second (part_list l.part)) ≡ sets l.second (part_list l.fn.first)
+    option_map (λ xs. map seen_set l.all.items ++ xs) (sets l.second (part_list l.part))
+    ≡ sets l.second (part_list l.fn.first)
 
 abbrev pub decreases-loop-all : goal.decreases-loop-all
 decreases-loop-all l = words_after l.part.after

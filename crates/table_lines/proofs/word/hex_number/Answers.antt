@@ -23,9 +23,12 @@ loop-b-preserved c =
     let n = c.loop-b.n in
     let next : i + 1 ≡ suc i = omega arith in
     let value = c.from.ensures ∙ c.digit_of.ensures.value in
-    let front : hex_from n (drop i text) ≡ hex_from (16 * n + hex_value (get_or text i 0)) (drop (suc i) text) = ap (hex_from n) (drop-cons text i 0 c.loop-b-test.true) in
+    let front : hex_from n (drop i text) ≡ hex_from (16 * n + hex_value (get_or text i 0))
+    (drop (suc i) text) = ap (hex_from n) (drop-cons text i 0 c.loop-b-test.true) in
     let small : c.from.result < 16 = omega (arith, c.from.ensures, c.digit_of.ensures.small) in
     record {
-      so_far = ap (λ v. hex_from (16 * n + v) (drop (i + 1) text)) value ∙ ap (λ k. hex_from (16 * n + hex_value (get_or text i 0)) (drop k text)) next ∙ sym front ∙ c.loop-b.invariant.so_far;
+      so_far = ap (λ v. hex_from (16 * n + v) (drop (i + 1) text)) value
+          ∙ ap (λ k. hex_from (16 * n + hex_value (get_or text i 0)) (drop k text)) next
+          ∙ sym front ∙ c.loop-b.invariant.so_far;
       small = one_more_digit i n c.from.result c.loop-b.invariant.small small;
     }

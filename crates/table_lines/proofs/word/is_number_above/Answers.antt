@@ -6,4 +6,5 @@ use Rattle.table_lines.proofs.word.is_number_above.Goals as goal
 
 pub returns-in-Digits : goal.returns-in-Digits
 returns-in-Digits c =
-    c.some_one.ensures ∙ sym (ap (λ n. nat_le (2 ^ c.args.width) (plain_value n)) c.in-Digits.is ∙ ones_above c.args.width (tern_bits c.in-Digits.t))
+    c.some_one.ensures ∙ sym (ap (λ n. nat_le (2 ^ c.args.width) (plain_value n)) c.in-Digits.is
+    ∙ ones_above c.args.width (tern_bits c.in-Digits.t))

@@ -16,9 +16,11 @@ loop-k-preserved c =
     let b = c.bit_at.result in
     let bit = c.with_bit-n.ensures ∙ ap (λ v. (if v then 1 else 0) + 2 * n) c.is_known.ensures in
     record {
-      value = bit ∙ step is_some c.args.width k n xs b c.loop-k-test.true c.bit_at.ensures c.loop-k.invariant.value;
+      value = bit ∙ step is_some c.args.width k n xs b c.loop-k-test.true
+          c.bit_at.ensures c.loop-k.invariant.value;
       small = subst (λ m. m < 2 ^ (k + 1)) (sym bit) (small_step (is_some b) k n c.loop-k.invariant.small);
     }
 
 pub with_bit-n-requires : goal.with_bit-n-requires
-with_bit-n-requires c = fits c.loop-k.k c.args.width c.loop-k.n c.loop-k.invariant.small c.loop-k-test.true c.requires
+with_bit-n-requires c =
+    fits c.loop-k.k c.args.width c.loop-k.n c.loop-k.invariant.small c.loop-k-test.true c.requires

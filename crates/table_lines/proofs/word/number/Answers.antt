@@ -8,7 +8,8 @@ pub returns-in-Ok : goal.returns-in-Ok
 returns-in-Ok c =
     let text = c.args.text.now in
     let at : Place = record { line = 1; col = 1 } in
-    is_number text (seen c.in-Ok.n) (rw c.in-Ok.n-is at c.in-Ok.ensures.ok) (ok_arm c.in-Ok.n at (number_of_text text) c.in-Ok.ensures.too_wide.1)
+    is_number text (seen c.in-Ok.n) (rw c.in-Ok.n-is at c.in-Ok.ensures.ok)
+    (ok_arm c.in-Ok.n at (number_of_text text) c.in-Ok.ensures.too_wide.1)
 
 pub returns-in-Err-BadNumber : goal.returns-in-Err-BadNumber
 returns-in-Err-BadNumber c =

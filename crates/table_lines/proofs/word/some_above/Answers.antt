@@ -11,5 +11,7 @@ pub returns : goal.returns
 returns c =
     let t = c.args.t.now in
     let long = open_length t.value.items t.care.items t.same_length in
-    let past : length (tern_bits t) ≤ c.loop-k.k = omega (arith, long, c.len-k-end.ensures.value, c.loop-k-test.false) in
-    none_after (λ bit. is_open bit || is_one bit) (tern_bits t) c.loop-k.k (list_any (λ bit. is_open bit || is_one bit) (drop c.args.width (tern_bits t))) past c.loop-k.invariant
+    let past : length (tern_bits t) ≤ c.loop-k.k =
+    omega (arith, long, c.len-k-end.ensures.value, c.loop-k-test.false) in
+    none_after (λ bit. is_open bit || is_one bit) (tern_bits t) c.loop-k.k (list_any
+    (λ bit. is_open bit || is_one bit) (drop c.args.width (tern_bits t))) past c.loop-k.invariant

@@ -7,4 +7,5 @@ use Rattle.table_lines.proofs.word.some_above.Given as goal
 
 abbrev pub invariant-loop-k : goal.invariant-loop-k
 invariant-loop-k l =
-    list_any (λ bit. is_open bit || is_one bit) (drop l.k (tern_bits l.t)) ≡ list_any (λ bit. is_open bit || is_one bit) (drop l.width (tern_bits l.t))
+    list_any (λ bit. is_open bit || is_one bit) (drop l.k (tern_bits l.t))
+    ≡ list_any (λ bit. is_open bit || is_one bit) (drop l.width (tern_bits l.t))

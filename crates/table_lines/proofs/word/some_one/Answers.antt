@@ -9,5 +9,6 @@ pub returns-else-width-from : goal.returns-else-width-from
 returns-else-width-from c =
     let t = c.args.t.now in
     let long = open_length t.value.items t.care.items t.same_length in
-    let past : length (tern_bits t) ≤ c.args.width = omega (arith, long, c.len.ensures.value, c.from.ensures, c.if-width-from.false) in
+    let past : length (tern_bits t) ≤ c.args.width =
+    omega (arith, long, c.len.ensures.value, c.from.ensures, c.if-width-from.false) in
     none_past is_one (tern_bits t) c.args.width past

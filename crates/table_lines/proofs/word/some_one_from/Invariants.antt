@@ -5,4 +5,5 @@ use Rattle.table_lines.specs.Words.{is_one}
 use Rattle.table_lines.proofs.word.some_one_from.Given as goal
 
 abbrev pub invariant-loop-k : goal.invariant-loop-k
-invariant-loop-k l = list_any is_one (drop l.k (tern_bits l.t)) ≡ list_any is_one (drop l.width (tern_bits l.t))
+invariant-loop-k l = list_any is_one (drop l.k (tern_bits l.t))
+    ≡ list_any is_one (drop l.width (tern_bits l.t))

@@ -9,5 +9,6 @@ pub returns : goal.returns
 returns c =
     let t = c.args.t.now in
     let long = open_length t.value.items t.care.items t.same_length in
-    let past : length (tern_bits t) ≤ c.loop-i.i = omega (arith, long, c.len-i-end.ensures.value, c.loop-i-test.false) in
+    let past : length (tern_bits t) ≤ c.loop-i.i =
+    omega (arith, long, c.len-i-end.ensures.value, c.loop-i-test.false) in
     none_left is_open (tern_bits t) c.loop-i.i past c.loop-i.invariant

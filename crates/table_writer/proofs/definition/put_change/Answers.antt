@@ -9,8 +9,12 @@ use Rattle.table_writer.proofs.definition.put_change.Goals as goal
 
 pub returns-clause-whole : goal.returns-clause-whole
 returns-clause-whole g c =
-    whole_as c.put_rows.result _ _ (ap (flat_map (λ x. row_text (seen_model c.args.m.now) (codes "change") (seen_row x))) c.as_slice.ensures ∙ fused (row_text (seen_model c.args.m.now) (codes "change")) seen_row _) c.put_rows.ensures.whole
+    whole_as c.put_rows.result _ _ (ap
+    (flat_map (λ x. row_text (seen_model c.args.m.now) (codes "change") (seen_row x))) c.as_slice.ensures
+    ∙ fused (row_text (seen_model c.args.m.now) (codes "change")) seen_row _) c.put_rows.ensures.whole
 
 pub returns-clause-part : goal.returns-clause-part
 returns-clause-part g c =
-    part_as c.put_rows.result _ _ (ap (flat_map (λ x. row_text (seen_model c.args.m.now) (codes "change") (seen_row x))) c.as_slice.ensures ∙ fused (row_text (seen_model c.args.m.now) (codes "change")) seen_row _) c.put_rows.ensures.part
+    part_as c.put_rows.result _ _ (ap
+    (flat_map (λ x. row_text (seen_model c.args.m.now) (codes "change") (seen_row x))) c.as_slice.ensures
+    ∙ fused (row_text (seen_model c.args.m.now) (codes "change")) seen_row _) c.put_rows.ensures.part

@@ -8,8 +8,10 @@ use Rattle.table_writer.proofs.definition.put_outs_of.Goals as goal
 
 pub returns-clause-whole : goal.returns-clause-whole
 returns-clause-whole g c =
-    whole_as c.put_outs.result _ _ (ap (flat_map (λ x. out_text (seen_model c.args.m.now) (seen_out x))) c.as_slice.ensures ∙ fused (out_text (seen_model c.args.m.now)) seen_out _) c.put_outs.ensures.whole
+    whole_as c.put_outs.result _ _ (ap (flat_map (λ x. out_text (seen_model c.args.m.now) (seen_out x)))
+    c.as_slice.ensures ∙ fused (out_text (seen_model c.args.m.now)) seen_out _) c.put_outs.ensures.whole
 
 pub returns-clause-part : goal.returns-clause-part
 returns-clause-part g c =
-    part_as c.put_outs.result _ _ (ap (flat_map (λ x. out_text (seen_model c.args.m.now) (seen_out x))) c.as_slice.ensures ∙ fused (out_text (seen_model c.args.m.now)) seen_out _) c.put_outs.ensures.part
+    part_as c.put_outs.result _ _ (ap (flat_map (λ x. out_text (seen_model c.args.m.now) (seen_out x)))
+    c.as_slice.ensures ∙ fused (out_text (seen_model c.args.m.now)) seen_out _) c.put_outs.ensures.part

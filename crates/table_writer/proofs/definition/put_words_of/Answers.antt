@@ -8,8 +8,10 @@ use Rattle.table_writer.proofs.definition.put_words_of.Goals as goal
 
 pub returns-clause-whole : goal.returns-clause-whole
 returns-clause-whole g c =
-    whole_as c.put_all_words.result _ _ (ap (flat_map (λ x. word_text (seen_word x))) c.as_slice.ensures ∙ fused (word_text) seen_word _) c.put_all_words.ensures.whole
+    whole_as c.put_all_words.result _ _ (ap (flat_map (λ x. word_text (seen_word x))) c.as_slice.ensures
+    ∙ fused (word_text) seen_word _) c.put_all_words.ensures.whole
 
 pub returns-clause-part : goal.returns-clause-part
 returns-clause-part g c =
-    part_as c.put_all_words.result _ _ (ap (flat_map (λ x. word_text (seen_word x))) c.as_slice.ensures ∙ fused (word_text) seen_word _) c.put_all_words.ensures.part
+    part_as c.put_all_words.result _ _ (ap (flat_map (λ x. word_text (seen_word x))) c.as_slice.ensures
+    ∙ fused (word_text) seen_word _) c.put_all_words.ensures.part

@@ -7,9 +7,11 @@ use Rattle.table_writer.proofs.names.put_operand.Goals as goal
 pub returns-clause-whole : goal.returns-clause-whole
 unfolding words_text
 returns-clause-whole g c =
-    whole_as c.put_words.result _ _ (operand_words (seen_model c.args.m.now) c.args.o _ _ c.old_mark.ensures c.operand_name.ensures) c.put_words.ensures.whole
+    whole_as c.put_words.result _ _ (operand_words (seen_model c.args.m.now) c.args.o _ _ c.old_mark.ensures
+    c.operand_name.ensures) c.put_words.ensures.whole
 
 pub returns-clause-part : goal.returns-clause-part
 unfolding words_text
 returns-clause-part g c =
-    part_as c.put_words.result _ _ (operand_words (seen_model c.args.m.now) c.args.o _ _ c.old_mark.ensures c.operand_name.ensures) c.put_words.ensures.part
+    part_as c.put_words.result _ _ (operand_words (seen_model c.args.m.now) c.args.o _ _ c.old_mark.ensures
+    c.operand_name.ensures) c.put_words.ensures.part

@@ -16,10 +16,13 @@ returns-in_err-write-clause-part g c =
     let n = width - c.loop-j.j in
     let m = width - 1 - c.loop-j.j in
     let more : n ≡ suc m = omega arith in
-    let here : digits (bits_of n v) (bits_of n care) ≡ (c.digit_at.result ∷ []) ++ digits (bits_of m v) (bits_of m care) = digits_step v care n m c.digit_at.result more c.digit_at.ensures in
+    let here : digits (bits_of n v) (bits_of n care) ≡ (c.digit_at.result ∷ []) ++ digits (bits_of m v)
+    (bits_of m care) = digits_step v care n m c.digit_at.result more c.digit_at.ensures in
     at_refusal c.from_residual.result
     (front_part (c.digit_at.result ∷ []) (digits (bits_of m v) (bits_of m care))
-    (subst (λ (rest : List ℕ). AddsFront (g.K.Sink.taken c.args.k.now) (g.K.Sink.taken c.loop-j.k) rest (digits (bits_of width v) (bits_of width care))) here c.loop-j.invariant.front) c.in_err-write.ensures.part)
+    (subst (λ (rest : List ℕ). AddsFront (g.K.Sink.taken c.args.k.now) (g.K.Sink.taken c.loop-j.k) rest
+    (digits (bits_of width v) (bits_of width care))) here c.loop-j.invariant.front)
+    c.in_err-write.ensures.part)
 
 pub loop-j-preserved : goal.loop-j-preserved
 loop-j-preserved g c =
@@ -30,10 +33,14 @@ loop-j-preserved g c =
     let m = width - (c.loop-j.j + 1) in
     let more : n ≡ suc m = omega arith in
     let place : width - 1 - c.loop-j.j ≡ m = omega arith in
-    let is : c.digit_at.result ≡ digit (bit_at v m == 1) (bit_at care m == 1) = c.digit_at.ensures ∙ ap (λ (p : ℕ). digit (bit_at v p == 1) (bit_at care p == 1)) place in
-    let here : digits (bits_of n v) (bits_of n care) ≡ (c.digit_at.result ∷ []) ++ digits (bits_of m v) (bits_of m care) = digits_step v care n m c.digit_at.result more is in
+    let is : c.digit_at.result ≡ digit (bit_at v m == 1) (bit_at care m == 1) =
+    c.digit_at.ensures ∙ ap (λ (p : ℕ). digit (bit_at v p == 1) (bit_at care p == 1)) place in
+    let here : digits (bits_of n v) (bits_of n care) ≡ (c.digit_at.result ∷ [])
+    ++ digits (bits_of m v) (bits_of m care) = digits_step v care n m c.digit_at.result more is in
     record {
       front = front_next (c.digit_at.result ∷ []) (digits (bits_of m v) (bits_of m care))
-          (subst (λ (rest : List ℕ). AddsFront (g.K.Sink.taken c.args.k.now) (g.K.Sink.taken c.loop-j.k) rest (digits (bits_of width v) (bits_of width care))) here c.loop-j.invariant.front) c.in_ok-write.ensures.whole;
+          (subst (λ (rest : List ℕ). AddsFront (g.K.Sink.taken c.args.k.now) (g.K.Sink.taken c.loop-j.k) rest
+          (digits (bits_of width v) (bits_of width care))) here c.loop-j.invariant.front)
+          c.in_ok-write.ensures.whole;
       later = omega (arith, c.write.ensures.cause.later);
     }

@@ -2,13 +2,18 @@ use Rattle.ij_io.proofs.Adding.{adds_both, adds_front, adds_then_part, at_refusa
 use Rattle.table_writer.proofs.row.put_first_conds.Goals as goal
 
 pub returns-in_err-write-clause-part : goal.returns-in_err-write-clause-part
-returns-in_err-write-clause-part g c = at_refusal c.from_residual.result (adds_front _ c.in_err-write.ensures.part)
+returns-in_err-write-clause-part g c =
+    at_refusal c.from_residual.result (adds_front _ c.in_err-write.ensures.part)
 
 pub returns-in_err-put_cond-clause-part : goal.returns-in_err-put_cond-clause-part
-returns-in_err-put_cond-clause-part g c = at_refusal c.from_residual-in_err-put_cond.result (adds_then_part c.in_ok-write.ensures.whole (adds_front _ c.in_err-put_cond.ensures.part))
+returns-in_err-put_cond-clause-part g c = at_refusal c.from_residual-in_err-put_cond.result
+    (adds_then_part c.in_ok-write.ensures.whole (adds_front _ c.in_err-put_cond.ensures.part))
 
 pub returns-in_err-put_more_conds-clause-part : goal.returns-in_err-put_more_conds-clause-part
-returns-in_err-put_more_conds-clause-part g c = at_refusal c.from_residual-in_err-put_more_conds.result (adds_then_part c.in_ok-write.ensures.whole (adds_then_part c.in_ok-put_cond.ensures.whole c.in_err-put_more_conds.ensures.part))
+returns-in_err-put_more_conds-clause-part g c =
+    at_refusal c.from_residual-in_err-put_more_conds.result (adds_then_part c.in_ok-write.ensures.whole
+    (adds_then_part c.in_ok-put_cond.ensures.whole c.in_err-put_more_conds.ensures.part))
 
 pub returns-clause-whole : goal.returns-clause-whole
-returns-clause-whole g c = adds_both c.in_ok-write.ensures.whole (adds_both c.in_ok-put_cond.ensures.whole c.in_ok-put_more_conds.ensures.whole)
+returns-clause-whole g c = adds_both c.in_ok-write.ensures.whole
+    (adds_both c.in_ok-put_cond.ensures.whole c.in_ok-put_more_conds.ensures.whole)

@@ -2,10 +2,12 @@ use Rattle.ij_io.proofs.Adding.{adds_both, adds_front, adds_then_part, at_refusa
 use Rattle.table_writer.proofs.row.put_first_sets.Goals as goal
 
 pub returns-in_err-put_set-clause-part : goal.returns-in_err-put_set-clause-part
-returns-in_err-put_set-clause-part g c = at_refusal c.from_residual.result (adds_front _ c.in_err-put_set.ensures.part)
+returns-in_err-put_set-clause-part g c =
+    at_refusal c.from_residual.result (adds_front _ c.in_err-put_set.ensures.part)
 
 pub returns-in_err-put_more_sets-clause-part : goal.returns-in_err-put_more_sets-clause-part
-returns-in_err-put_more_sets-clause-part g c = at_refusal c.from_residual-in_err-put_more_sets.result (adds_then_part c.in_ok-put_set.ensures.whole c.in_err-put_more_sets.ensures.part)
+returns-in_err-put_more_sets-clause-part g c = at_refusal c.from_residual-in_err-put_more_sets.result
+    (adds_then_part c.in_ok-put_set.ensures.whole c.in_err-put_more_sets.ensures.part)
 
 pub returns-clause-whole : goal.returns-clause-whole
 returns-clause-whole g c = adds_both c.in_ok-put_set.ensures.whole c.in_ok-put_more_sets.ensures.whole

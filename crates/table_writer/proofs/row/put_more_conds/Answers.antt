@@ -6,4 +6,6 @@ use Rattle.table_writer.proofs.row.put_more_conds.Goals as goal
 
 pub returns-in_err-put_next_cond-clause-part : goal.returns-in_err-put_next_cond-clause-part
 returns-in_err-put_next_cond-clause-part g c =
-    at_refusal c.from_residual.result (words_part (next_cond (seen_model c.args.m.now)) c.args.conds.now c.loop-c.c-index c.loop-c-test.true (get_or_default _ _ _ _ c.loop-c-test.true) c.loop-c.invariant.so_far c.in_err-put_next_cond.ensures.part)
+    at_refusal c.from_residual.result (words_part (next_cond (seen_model c.args.m.now)) c.args.conds.now
+    c.loop-c.c-index c.loop-c-test.true (get_or_default _ _ _ _ c.loop-c-test.true)
+    c.loop-c.invariant.so_far c.in_err-put_next_cond.ensures.part)

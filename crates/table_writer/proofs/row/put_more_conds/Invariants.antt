@@ -7,6 +7,7 @@ use Rattle.table_writer.proofs.row.put_more_conds.Given as goal
 
 abbrev pub invariant-loop-c : goal.invariant-loop-c
 invariant-loop-c g l = record {
-  so_far : Adds (g.K.Sink.taken l.fn.k) (g.K.Sink.taken l.k) (flat_map (next_cond (seen_model l.m)) (take l.c-index l.conds));
+  so_far : Adds (g.K.Sink.taken l.fn.k) (g.K.Sink.taken l.k)
+      (flat_map (next_cond (seen_model l.m)) (take l.c-index l.conds));
   later : g.K.Sink.faults l.fn.k ≤ g.K.Sink.faults l.k;
 }

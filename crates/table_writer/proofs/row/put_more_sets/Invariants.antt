@@ -7,6 +7,7 @@ use Rattle.table_writer.proofs.row.put_more_sets.Given as goal
 
 abbrev pub invariant-loop-x : goal.invariant-loop-x
 invariant-loop-x g l = record {
-  so_far : Adds (g.K.Sink.taken l.fn.k) (g.K.Sink.taken l.k) (flat_map (next_set (seen_model l.m)) (take l.x-index l.sets));
+  so_far : Adds (g.K.Sink.taken l.fn.k) (g.K.Sink.taken l.k)
+      (flat_map (next_set (seen_model l.m)) (take l.x-index l.sets));
   later : g.K.Sink.faults l.fn.k ≤ g.K.Sink.faults l.k;
 }

@@ -6,8 +6,12 @@ use Rattle.table_writer.proofs.row.put_when.Goals as goal
 
 pub returns-in-len1-up-clause-whole : goal.returns-in-len1-up-clause-whole
 returns-in-len1-up-clause-whole g c =
-    whole_as c.put_first_conds.result _ _ (when_is (seen_model c.args.m.now) c.args.conds.now _ c.in-len1-up.len_at_least (get_or_default _ _ _ _ c.in-len1-up.len_at_least)) c.put_first_conds.ensures.whole
+    whole_as c.put_first_conds.result _ _
+    (when_is (seen_model c.args.m.now) c.args.conds.now _ c.in-len1-up.len_at_least
+    (get_or_default _ _ _ _ c.in-len1-up.len_at_least)) c.put_first_conds.ensures.whole
 
 pub returns-in-len1-up-clause-part : goal.returns-in-len1-up-clause-part
 returns-in-len1-up-clause-part g c =
-    part_as c.put_first_conds.result _ _ (when_is (seen_model c.args.m.now) c.args.conds.now _ c.in-len1-up.len_at_least (get_or_default _ _ _ _ c.in-len1-up.len_at_least)) c.put_first_conds.ensures.part
+    part_as c.put_first_conds.result _ _
+    (when_is (seen_model c.args.m.now) c.args.conds.now _ c.in-len1-up.len_at_least
+    (get_or_default _ _ _ _ c.in-len1-up.len_at_least)) c.put_first_conds.ensures.part

@@ -8,8 +8,10 @@ use Rattle.table_writer.proofs.tables.put_all_blocks.Goals as goal
 
 pub returns-clause-whole : goal.returns-clause-whole
 returns-clause-whole g c =
-    whole_as c.put_blocks.result _ _ (ap (flat_map (λ x. table_text (seen_table x))) c.as_slice.ensures ∙ fused (table_text) seen_table _) c.put_blocks.ensures.whole
+    whole_as c.put_blocks.result _ _ (ap (flat_map (λ x. table_text (seen_table x))) c.as_slice.ensures
+    ∙ fused (table_text) seen_table _) c.put_blocks.ensures.whole
 
 pub returns-clause-part : goal.returns-clause-part
 returns-clause-part g c =
-    part_as c.put_blocks.result _ _ (ap (flat_map (λ x. table_text (seen_table x))) c.as_slice.ensures ∙ fused (table_text) seen_table _) c.put_blocks.ensures.part
+    part_as c.put_blocks.result _ _ (ap (flat_map (λ x. table_text (seen_table x))) c.as_slice.ensures
+    ∙ fused (table_text) seen_table _) c.put_blocks.ensures.part

@@ -2,13 +2,17 @@ use Rattle.ij_io.proofs.Adding.{adds_both, adds_front, adds_then_part, at_refusa
 use Rattle.table_writer.proofs.tables.put_instrument.Goals as goal
 
 pub returns-in_err-write-clause-part : goal.returns-in_err-write-clause-part
-returns-in_err-write-clause-part g c = at_refusal c.from_residual.result (adds_front _ c.in_err-write.ensures.part)
+returns-in_err-write-clause-part g c =
+    at_refusal c.from_residual.result (adds_front _ c.in_err-write.ensures.part)
 
 pub returns-in_err-put_path-clause-part : goal.returns-in_err-put_path-clause-part
-returns-in_err-put_path-clause-part g c = at_refusal c.from_residual-in_err-put_path.result (adds_then_part c.in_ok-write.ensures.whole (adds_front _ c.in_err-put_path.ensures.part))
+returns-in_err-put_path-clause-part g c = at_refusal c.from_residual-in_err-put_path.result
+    (adds_then_part c.in_ok-write.ensures.whole (adds_front _ c.in_err-put_path.ensures.part))
 
 pub returns-in_err-write-2-clause-part : goal.returns-in_err-write-2-clause-part
-returns-in_err-write-2-clause-part g c = at_refusal c.from_residual-in_err-write-2.result (adds_then_part c.in_ok-write.ensures.whole (adds_then_part c.in_ok-put_path.ensures.whole c.in_err-write-2.ensures.part))
+returns-in_err-write-2-clause-part g c = at_refusal c.from_residual-in_err-write-2.result (adds_then_part
+    c.in_ok-write.ensures.whole (adds_then_part c.in_ok-put_path.ensures.whole c.in_err-write-2.ensures.part))
 
 pub returns-clause-whole : goal.returns-clause-whole
-returns-clause-whole g c = adds_both c.in_ok-write.ensures.whole (adds_both c.in_ok-put_path.ensures.whole c.in_ok-write-2.ensures.whole)
+returns-clause-whole g c = adds_both c.in_ok-write.ensures.whole
+    (adds_both c.in_ok-put_path.ensures.whole c.in_ok-write-2.ensures.whole)

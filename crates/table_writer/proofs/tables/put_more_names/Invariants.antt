@@ -6,6 +6,7 @@ use Rattle.table_writer.proofs.tables.put_more_names.Given as goal
 
 abbrev pub invariant-loop-name : goal.invariant-loop-name
 invariant-loop-name g l = record {
-  so_far : Adds (g.K.Sink.taken l.fn.k) (g.K.Sink.taken l.k) (flat_map (λ name. next_name name.items) (take l.name-index l.names));
+  so_far : Adds (g.K.Sink.taken l.fn.k) (g.K.Sink.taken l.k)
+      (flat_map (λ name. next_name name.items) (take l.name-index l.names));
   later : g.K.Sink.faults l.fn.k ≤ g.K.Sink.faults l.k;
 }

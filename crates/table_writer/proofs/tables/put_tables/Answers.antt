@@ -4,11 +4,13 @@ use Rattle.table_writer.proofs.tables.put_tables.Goals as goal
 
 pub returns-in_err-write-clause-part : goal.returns-in_err-write-clause-part
 unfolding tables_text
-returns-in_err-write-clause-part g c = at_refusal c.from_residual.result (adds_front _ c.in_err-write.ensures.part)
+returns-in_err-write-clause-part g c =
+    at_refusal c.from_residual.result (adds_front _ c.in_err-write.ensures.part)
 
 pub returns-in_err-put_all_blocks-clause-part : goal.returns-in_err-put_all_blocks-clause-part
 unfolding tables_text
-returns-in_err-put_all_blocks-clause-part g c = at_refusal c.from_residual-in_err-put_all_blocks.result (adds_then_part c.in_ok-write.ensures.whole c.in_err-put_all_blocks.ensures.part)
+returns-in_err-put_all_blocks-clause-part g c = at_refusal c.from_residual-in_err-put_all_blocks.result
+    (adds_then_part c.in_ok-write.ensures.whole c.in_err-put_all_blocks.ensures.part)
 
 pub returns-clause-whole : goal.returns-clause-whole
 unfolding tables_text

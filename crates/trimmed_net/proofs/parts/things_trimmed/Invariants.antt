@@ -6,7 +6,8 @@ use Rattle.trimmed_net.proofs.parts.things_trimmed.Given as goal
 
 abbrev pub invariant-loop-thing : goal.invariant-loop-thing
 invariant-loop-thing l = record {
-  items : l.trimmed.items ++ map trimmed_thing (map seen_thing (reverse l.left.items)) ≡ map trimmed_thing (map seen_thing l.fn.things.items);
+  items : l.trimmed.items ++ map trimmed_thing (map seen_thing (reverse l.left.items))
+      ≡ map trimmed_thing (map seen_thing l.fn.things.items);
   room : l.trimmed.spare ≡ vec_len l.left;
 }
 

@@ -15,17 +15,24 @@ returns-in_err-put_values-clause-part g c d k =
     let i = c.self.inside in
     let v = c.self.invariant in
     let kept = subst (λ (x : Kept). Keeps x d) (sym c.self.view_is) k in
-    let text = append_assoc (registers_text i.net.now i.values.holds) (instruments_text i.net.now (map seen_model i.models.now.items) i.values.insts) (direct_text i.reads i.differs)
-    ∙ end_same i.net.now i.models.now.items i.values i.values i.reads i.differs v.same_net v.same_models d kept
+    let text = append_assoc (registers_text i.net.now i.values.holds) (instruments_text i.net.now
+    (map seen_model i.models.now.items) i.values.insts) (direct_text i.reads i.differs)
+    ∙ end_same i.net.now i.models.now.items i.values i.values i.reads
+    i.differs v.same_net v.same_models d kept
     ∙ ap (λ (x : Kept). end_text x.net x.models d) c.self.view_is in
-    at_refusal _ (subst (λ (t : List ℕ). AddsPart (g.K.Sink.taken c.args.k.now) (g.K.Sink.taken c.put_values.new.k) t) text (adds_front _ c.in_err-put_values.ensures.part))
+    at_refusal _ (subst (λ (t : List ℕ). AddsPart (g.K.Sink.taken c.args.k.now)
+    (g.K.Sink.taken c.put_values.new.k) t) text (adds_front _ c.in_err-put_values.ensures.part))
 
 pub returns-in_err-put_totals-clause-part : goal.returns-in_err-put_totals-clause-part
 returns-in_err-put_totals-clause-part g c d k =
     let i = c.self.inside in
     let v = c.self.invariant in
     let kept = subst (λ (x : Kept). Keeps x d) (sym c.self.view_is) k in
-    let text = append_assoc (registers_text i.net.now i.values.holds) (instruments_text i.net.now (map seen_model i.models.now.items) i.values.insts) (direct_text i.reads i.differs)
-    ∙ end_same i.net.now i.models.now.items i.values i.values i.reads i.differs v.same_net v.same_models d kept
+    let text = append_assoc (registers_text i.net.now i.values.holds) (instruments_text i.net.now
+    (map seen_model i.models.now.items) i.values.insts) (direct_text i.reads i.differs)
+    ∙ end_same i.net.now i.models.now.items i.values i.values i.reads
+    i.differs v.same_net v.same_models d kept
     ∙ ap (λ (x : Kept). end_text x.net x.models d) c.self.view_is in
-    at_refusal _ (subst (λ (t : List ℕ). AddsPart (g.K.Sink.taken c.args.k.now) (g.K.Sink.taken c.put_totals.new.k) t) text (adds_then_part c.in_ok-put_values.ensures.whole c.in_err-put_totals.ensures.part))
+    at_refusal _
+    (subst (λ (t : List ℕ). AddsPart (g.K.Sink.taken c.args.k.now) (g.K.Sink.taken c.put_totals.new.k) t)
+    text (adds_then_part c.in_ok-put_values.ensures.whole c.in_err-put_totals.ensures.part))

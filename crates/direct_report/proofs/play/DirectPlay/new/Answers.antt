@@ -16,7 +16,8 @@ invariant_of-result c =
       same_net = ap (λ (s : SeenState). s.net) c.in_ok-power_up.ensures;
       same_models = ap (λ (s : SeenState). s.models) c.in_ok-power_up.ensures;
       blank = λ b. ap (λ (m : Marks). mark_at m b) c.in_ok-zeros.ensures ∙ zeros_are_zero net b;
-      has_marks = λ b is. subst (λ (m : Marks). HasMark m b) (sym c.in_ok-zeros.ensures) (each_bit_has_one net b is);
+      has_marks = λ b is. subst (λ (m : Marks). HasMark m b)
+          (sym c.in_ok-zeros.ensures) (each_bit_has_one net b is);
       less = omega arith;
     }
 
@@ -24,7 +25,8 @@ pub returns-clause-state : goal.returns-clause-state
 returns-clause-state c =
     record {
       holds = ap (λ (s : SeenState). s.holds) c.in_ok-power_up.ensures;
-      insts = ap (λ (s : SeenState). s.insts) c.in_ok-power_up.ensures ∙ ap (fresh count_log) (machines_are c.args.models.now.items);
+      insts = ap (λ (s : SeenState). s.insts) c.in_ok-power_up.ensures
+          ∙ ap (fresh count_log) (machines_are c.args.models.now.items);
       reads = refl;
       differs = refl;
     }

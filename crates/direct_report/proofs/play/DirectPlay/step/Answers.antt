@@ -16,9 +16,12 @@ returns-in-Run-clause-state g c d k =
     let after = c.run.new.self in
     let kept = subst (λ (x : Kept). Keeps x d) (sym c.self.view_is) k in
     let now = kept_at i.net.now (map seen_model i.models.now.items) after i.reads i.differs in
-    let done = after_run i.net.now i.models.now.items i.values after i.reads i.differs v.same_net v.same_models d kept c.in-Run.cycles c.run.ensures.state in
-    let here = subst (λ (x : Kept). Keeps now (do_step count_log x.net (map machine_of x.models) d (Run c.in-Run.cycles))) c.self.view_is done in
-    subst (λ (s : BitStep). Keeps now (do_step count_log c.args.self.now.net (map machine_of c.args.self.now.models) d (seen_step s))) (sym c.in-Run.is) here
+    let done = after_run i.net.now i.models.now.items i.values after i.reads i.differs v.same_net
+    v.same_models d kept c.in-Run.cycles c.run.ensures.state in
+    let here = subst (λ (x : Kept). Keeps now
+    (do_step count_log x.net (map machine_of x.models) d (Run c.in-Run.cycles))) c.self.view_is done in
+    subst (λ (s : BitStep). Keeps now (do_step count_log c.args.self.now.net
+    (map machine_of c.args.self.now.models) d (seen_step s))) (sym c.in-Run.is) here
 
 pub returns-in-Reset-clause-state : goal.returns-in-Reset-clause-state
 returns-in-Reset-clause-state g c d k =
@@ -27,6 +30,9 @@ returns-in-Reset-clause-state g c d k =
     let after = c.reset.new.self in
     let kept = subst (λ (x : Kept). Keeps x d) (sym c.self-in-Reset.view_is) k in
     let now = kept_at i.net.now (map seen_model i.models.now.items) after i.reads i.differs in
-    let done = after_reset i.net.now i.models.now.items i.values after i.reads i.differs v.same_net v.same_models d kept c.reset.ensures in
-    let here = subst (λ (x : Kept). Keeps now (do_step count_log x.net (map machine_of x.models) d Reset)) c.self-in-Reset.view_is done in
-    subst (λ (s : BitStep). Keeps now (do_step count_log c.args.self.now.net (map machine_of c.args.self.now.models) d (seen_step s))) (sym c.in-Reset.is) here
+    let done = after_reset i.net.now i.models.now.items i.values after i.reads i.differs
+    v.same_net v.same_models d kept c.reset.ensures in
+    let here = subst (λ (x : Kept). Keeps now (do_step count_log x.net (map machine_of x.models) d Reset))
+    c.self-in-Reset.view_is done in
+    subst (λ (s : BitStep). Keeps now (do_step count_log c.args.self.now.net
+    (map machine_of c.args.self.now.models) d (seen_step s))) (sym c.in-Reset.is) here

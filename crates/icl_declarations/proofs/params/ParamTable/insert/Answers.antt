@@ -7,4 +7,5 @@ pub returns-clause-ok : goal.returns-clause-ok
 returns-clause-ok c =
     ap (given (λ k. k.items) seen_value) c.in_ok-insert.ensures.entries
     ∙ put (λ k. k.items) seen_value c.args.self.now.table.entries c.in_ok-key.key c.args.value
-    ∙ ap (λ (n : List ℕ). with_worth (given (λ k. k.items) seen_value c.args.self.now.table.entries) n (seen_value c.args.value)) c.in_ok-key.ensures.items
+    ∙ ap (λ (n : List ℕ). with_worth (given (λ k. k.items) seen_value c.args.self.now.table.entries) n
+    (seen_value c.args.value)) c.in_ok-key.ensures.items

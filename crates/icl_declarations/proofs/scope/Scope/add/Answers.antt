@@ -10,5 +10,7 @@ returns-in_ok-insert-in-None-clause-ok c n =
     let none : entry_of c.args.self.now c.args.name.now ≡ None = sym c.find.ensures ∙ c.in-None.is in
     let key = c.in_ok-key-in-None.ensures.items in
     ap (λ es. at (λ k. k.items) es n) c.in_ok-insert-in-None.ensures.entries
-    ∙ added (λ k. k.items) c.args.self.now.parts.entries c.in_ok-key-in-None.key c.args.part (ap (entry_of c.args.self.now) key ∙ none) n
-    ∙ ap (λ (m : List ℕ). or_else (entry_of c.args.self.now n) (cond (bytes_eq n m) (Some c.args.part) None)) key
+    ∙ added (λ k. k.items) c.args.self.now.parts.entries c.in_ok-key-in-None.key c.args.part
+    (ap (entry_of c.args.self.now) key ∙ none) n
+    ∙ ap (λ (m : List ℕ). or_else (entry_of c.args.self.now n)
+    (cond (bytes_eq n m) (Some c.args.part) None)) key

@@ -8,5 +8,7 @@ use Rattle.icl_declarations.proofs.scope.Scope.of.Given as goal
 abbrev pub invariant-loop-item : goal.invariant-loop-item
 invariant-loop-item l = record {
   few : l.part ≤ l.item-index;
-  goes_on : (name : List ℕ) → or_else (entry_of l.scope name) (part_from l.part is_signal (map seen_item (drop l.item-index l.items)) name) ≡ part_from 0 is_signal (map seen_item l.items) name;
+  goes_on : (name : List ℕ) → or_else (entry_of l.scope name)
+      (part_from l.part is_signal (map seen_item (drop l.item-index l.items)) name)
+      ≡ part_from 0 is_signal (map seen_item l.items) name;
 }

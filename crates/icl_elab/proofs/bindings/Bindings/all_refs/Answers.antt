@@ -13,5 +13,6 @@ loop-pos-preserved c =
           ∙ ap (λ (r : Ref). c.loop-pos.refs.items ++ r ∷ []) c.ref_at.ensures
           ∙ ap (λ (l : List Ref). l ++ f pos ∷ []) c.loop-pos.invariant.items
           ∙ sym (map-range_with_len_more f 0 pos pos (omega arith));
-      room = let spare = c.push_reserved.ensures.spare in let room = c.loop-pos.invariant.room in omega (arith, spare, room);
+      room = let spare = c.push_reserved.ensures.spare in
+          let room = c.loop-pos.invariant.room in omega (arith, spare, room);
     }

@@ -10,4 +10,5 @@ pub returns-else-part-len : goal.returns-else-part-len
 returns-else-part-len c =
     let none : ltb c.args.part c.len.result ≡ false = grind (arith, nat_tests) in
     let past = get_or_past c.self.inside.rows.items c.args.part [] (omega (arith, c.self.inside.rows.ok.0)) in
-    none ∙ ap has_marks (sym past) ∙ c.self.invariant.parts c.args.part ∙ ap (λ (bs : List Bound). list_any (λ b. eqb b.part c.args.part) bs) c.self.view_is
+    none ∙ ap has_marks (sym past) ∙ c.self.invariant.parts c.args.part
+    ∙ ap (λ (bs : List Bound). list_any (λ b. eqb b.part c.args.part) bs) c.self.view_is

@@ -4,4 +4,5 @@ use Rattle.icl_elab.specs.Bindings.{is_bound}
 use Rattle.icl_elab.proofs.bindings.Bindings.binds_all.Given as goal
 
 abbrev pub invariant-loop-pos : goal.invariant-loop-pos
-invariant-loop-pos l = list_all (is_bound l.self l.part) (range_with_len l.pos (l.wide - l.pos)) ≡ list_all (is_bound l.self l.part) (range_with_len 0 l.wide)
+invariant-loop-pos l = list_all (is_bound l.self l.part) (range_with_len l.pos (l.wide - l.pos))
+    ≡ list_all (is_bound l.self l.part) (range_with_len 0 l.wide)

@@ -10,5 +10,6 @@ loop-k-preserved c =
     let low = c.args.s.low in
     let k = c.loop-k.k in
     let count = c.saturating_sub-count.result in
-    sym (any_step f low k count c.loop-k-test.true ∙ ap (λ b. b || list_any f (range_with_len (low + (k + 1)) (count - (k + 1)))) (sym c.is_bound.ensures ∙ c.if-is_bound.false))
+    sym (any_step f low k count c.loop-k-test.true ∙ ap (λ b. b || list_any f
+    (range_with_len (low + (k + 1)) (count - (k + 1)))) (sym c.is_bound.ensures ∙ c.if-is_bound.false))
     ∙ c.loop-k.invariant

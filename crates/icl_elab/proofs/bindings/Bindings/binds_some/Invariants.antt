@@ -4,4 +4,5 @@ use Rattle.icl_elab.specs.Bindings.{is_bound}
 use Rattle.icl_elab.proofs.bindings.Bindings.binds_some.Given as goal
 
 abbrev pub invariant-loop-k : goal.invariant-loop-k
-invariant-loop-k l = list_any (is_bound l.self l.part) (range_with_len (l.low + l.k) (l.count - l.k)) ≡ list_any (is_bound l.self l.part) (range_with_len l.low l.count)
+invariant-loop-k l = list_any (is_bound l.self l.part) (range_with_len (l.low + l.k) (l.count - l.k))
+    ≡ list_any (is_bound l.self l.part) (range_with_len l.low l.count)

@@ -5,4 +5,5 @@ use Rattle.icl_elab.specs.Bindings.{binds_bit}
 use Rattle.icl_elab.proofs.bindings.Bindings.is_bound.Goals as goal
 
 pub returns : goal.returns
-returns c = c.is_some.ensures ∙ ap is_some c.number_of.ensures ∙ any_position (binds_bit c.args.part c.args.pos) 0 c.args.self.now
+returns c = c.is_some.ensures ∙ ap is_some c.number_of.ensures
+    ∙ any_position (binds_bit c.args.part c.args.pos) 0 c.args.self.now

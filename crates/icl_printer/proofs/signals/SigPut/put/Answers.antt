@@ -3,10 +3,12 @@ use Rattle.icl_printer.proofs.Laid.{laid_both, laid_front, laid_then_part}
 use Rattle.icl_printer.proofs.signals.SigPut.put.Goals as goal
 
 pub returns-in_err-put_mark_if-clause-part : goal.returns-in_err-put_mark_if-clause-part
-returns-in_err-put_mark_if-clause-part g c = at_refusal c.from_residual.result (laid_front _ _ c.in_err-put_mark_if.ensures.part)
+returns-in_err-put_mark_if-clause-part g c =
+    at_refusal c.from_residual.result (laid_front _ _ c.in_err-put_mark_if.ensures.part)
 
 pub returns-in_err-put-clause-part : goal.returns-in_err-put-clause-part
-returns-in_err-put-clause-part g c = at_refusal c.from_residual-in_err-put.result (laid_then_part _ _ c.in_ok-put_mark_if.ensures.whole c.in_err-put.ensures.part)
+returns-in_err-put-clause-part g c = at_refusal c.from_residual-in_err-put.result
+    (laid_then_part _ _ c.in_ok-put_mark_if.ensures.whole c.in_err-put.ensures.part)
 
 pub returns-clause-whole : goal.returns-clause-whole
 returns-clause-whole g c = laid_both _ _ c.in_ok-put_mark_if.ensures.whole c.in_ok-put.ensures.whole

@@ -14,7 +14,8 @@ returns-then-has c =
     let key = c.deref-2.ensures.value ∙ c.in_ok-key.ensures in
     let closed = sym (c.if-not-is_closed.ensures) in
     key_found (tern_bits c.args.v.now) closed (values_of s) c.requires.wide
-    (sym (c.requires.seen.closed _) ∙ ap (λ (k : List ℕ). has_entry s.closed k) (sym key) ∙ sym c.if-has.ensures)
+    (sym (c.requires.seen.closed _)
+    ∙ ap (λ (k : List ℕ). has_entry s.closed k) (sym key) ∙ sym c.if-has.ensures)
 
 pub returns : goal.returns
 returns c =
@@ -22,7 +23,10 @@ returns c =
     let key = c.deref-2.ensures.value ∙ c.in_ok-key.ensures in
     let closed = sym (c.if-not-is_closed.ensures) in
     c.one_meets-2.ensures
-    ∙ ap (λ l. list_any (λ (u : OpenBits). meet u (tern_bits c.args.v.now)) (map (λ v. tern_bits v.now) l)) c.deref-3.ensures.value
-    ∙ ap (λ (l : List OpenBits). list_any (λ (u : OpenBits). meet u (tern_bits c.args.v.now)) l) c.requires.seen.with_x
+    ∙ ap (λ l. list_any (λ (u : OpenBits). meet u (tern_bits c.args.v.now)) (map (λ v. tern_bits v.now) l))
+    c.deref-3.ensures.value
+    ∙ ap (λ (l : List OpenBits). list_any (λ (u : OpenBits). meet u (tern_bits c.args.v.now)) l)
+    c.requires.seen.with_x
     ∙ key_missing (tern_bits c.args.v.now) closed (values_of s) c.requires.wide
-    (sym (c.requires.seen.closed _) ∙ ap (λ (k : List ℕ). has_entry s.closed k) (sym key) ∙ sym c.if-has.ensures)
+    (sym (c.requires.seen.closed _)
+    ∙ ap (λ (k : List ℕ). has_entry s.closed k) (sym key) ∙ sym c.if-has.ensures)

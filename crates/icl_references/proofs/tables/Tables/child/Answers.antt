@@ -11,19 +11,25 @@ pub returns-in-Some-clause-there : goal.returns-in-Some-clause-there
 returns-in-Some-clause-there c =
     let t = c.args.self.now in
     let all = c.requires.tables in
-    let is = all.children c.args.here c.index-children.result.now (omega (arith, all.long, c.requires.there)) c.index-children.ensures c.args.name.now in
-    let child = child_is (frames_of t) c.args.at c.args.here c.args.name.now c.in-Some.child (sym c.in-Some.is ∙ c.find.ensures ∙ is) in
+    let is = all.children c.args.here c.index-children.result.now
+    (omega (arith, all.long, c.requires.there)) c.index-children.ensures c.args.name.now in
+    let child = child_is (frames_of t) c.args.at c.args.here c.args.name.now c.in-Some.child
+    (sym c.in-Some.is ∙ c.find.ensures ∙ is) in
     let l = length-map t.cells.items (λ (x : CellTable). seen_frame x.frame.now) in
     record { tables = all; there = let lt = child.there in omega (arith, lt, l) }
 
 pub returns-in-Some-clause-gives : goal.returns-in-Some-clause-gives
 returns-in-Some-clause-gives c =
     let all = c.requires.tables in
-    let is = all.children c.args.here c.index-children.result.now (omega (arith, all.long, c.requires.there)) c.index-children.ensures c.args.name.now in
-    (child_is (frames_of c.args.self.now) c.args.at c.args.here c.args.name.now c.in-Some.child (sym c.in-Some.is ∙ c.find.ensures ∙ is)).is
+    let is = all.children c.args.here c.index-children.result.now
+    (omega (arith, all.long, c.requires.there)) c.index-children.ensures c.args.name.now in
+    (child_is (frames_of c.args.self.now) c.args.at c.args.here c.args.name.now c.in-Some.child
+    (sym c.in-Some.is ∙ c.find.ensures ∙ is)).is
 
 pub returns-in-None-clause-gives : goal.returns-in-None-clause-gives
 returns-in-None-clause-gives c =
     let all = c.requires.tables in
-    let is = all.children c.args.here c.index-children.result.now (omega (arith, all.long, c.requires.there)) c.index-children.ensures c.args.name.now in
-    no_child c.args.at (child_cell (frames_of c.args.self.now) c.args.here c.args.name.now) (sym c.in-None.is ∙ c.find.ensures ∙ is)
+    let is = all.children c.args.here c.index-children.result.now
+    (omega (arith, all.long, c.requires.there)) c.index-children.ensures c.args.name.now in
+    no_child c.args.at (child_cell (frames_of c.args.self.now) c.args.here c.args.name.now)
+    (sym c.in-None.is ∙ c.find.ensures ∙ is)

@@ -11,7 +11,8 @@ pub returns-clause-items : goal.returns-clause-items
 returns-clause-items c =
     let all : (j : ℕ) → j < 64 → (bit_at c.if-v.fill j == 1) ≡ c.args.v = λ j low.
     elim c.if-v.branch [
-      | then-v w ↦ ap (λ n. bit_at n j == 1) w.fill-is ∙ ap (λ b. b == 1) (bit_at_ones 64 j low) ∙ sym w.if-v.true
+      | then-v w ↦ ap (λ n. bit_at n j == 1) w.fill-is
+          ∙ ap (λ b. b == 1) (bit_at_ones 64 j low) ∙ sym w.if-v.true
       | else-v w ↦ ap (λ n. bit_at n j == 1) w.fill-is ∙ ap (λ b. b == 1) (bit_at-zero j) ∙ sym w.if-v.false
     ] in
     let count = count_is c.self.inside _ c.self.view_is in

@@ -1,4 +1,5 @@
-use Rattle.std.proofs.Common.{◌≡◌, ◌-◌, ◌+◌, ◌*◌, ◌/◌, ◌%◌, ◌^◌, ◌∙◌, ℕ, min, length, inl, inr, ap, arith, take, drop}
+use Rattle.std.proofs.Common.{◌≡◌, ◌-◌, ◌+◌, ◌*◌, ◌/◌, ◌%◌, ◌^◌, ◌∙◌, ℕ, min, length, inl, inr, ap, arith}
+use Rattle.std.proofs.Common.{take, drop}
 use Rattle.std.proofs.lemmas.Bool.{cases_lt}
 use Rattle.ij_bits.specs.BitLists.{number_of}
 use Rattle.ij_bits.specs.Hex.{hex_code}
@@ -17,7 +18,9 @@ loop-i-preserved c k below reach =
       | inl inner ↦
           let j : ℕ = end - 1 - k in
           let place : from + 4 * j ≡ 4 * (c.args.d + (n - 1 - k)) = omega arith in
-          at_place c.put_digits.new.to _ k _ (c.put_digits.ensures.at j (omega arith) (omega arith)) (omega arith)
-          ∙ ap hex_code (ap (λ v. v / 2 ^ (4 * j) % 16) c.number-value.ensures.value ∙ part_digit bits from c.min.result j size (omega arith) ∙ ap (λ p. number_of (take 4 (drop p bits))) place)
+          at_place c.put_digits.new.to _ k _
+          (c.put_digits.ensures.at j (omega arith) (omega arith)) (omega arith)
+          ∙ ap hex_code (ap (λ v. v / 2 ^ (4 * j) % 16) c.number-value.ensures.value ∙ part_digit bits from
+          c.min.result j size (omega arith) ∙ ap (λ p. number_of (take 4 (drop p bits))) place)
       | inr outer ↦ c.put_digits.ensures.following k outer ∙ c.loop-i.invariant k below (omega arith)
     ]

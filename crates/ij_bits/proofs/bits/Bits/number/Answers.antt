@@ -16,6 +16,8 @@ returns-clause-value c =
     let count = c.self.inside.count in
     let within : from + n ≤ count = omega (arith, count_is c.self.inside _ c.self.view_is) in
     let size : from + n - from ≡ n = omega arith in
-    rw (← c.self.view_is) (number_is (take n (drop from (first_bits words count))) c.number_at.result n (length-part words count from n within) c.number_at.ensures.small
-    (λ k inner. c.number_at.ensures.bits k inner ∙ ap (λ (ws : List ℕ). word_bit ws (from + k)) c.deref.ensures.value ∙ sym (get_or-part words count from n k within inner))
+    rw (← c.self.view_is) (number_is (take n (drop from (first_bits words count))) c.number_at.result n
+    (length-part words count from n within) c.number_at.ensures.small
+    (λ k inner. c.number_at.ensures.bits k inner ∙ ap (λ (ws : List ℕ). word_bit ws (from + k))
+    c.deref.ensures.value ∙ sym (get_or-part words count from n k within inner))
     ∙ ap (λ j. number_of (take j (drop from (first_bits words count)))) (sym size))

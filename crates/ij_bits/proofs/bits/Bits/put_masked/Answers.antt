@@ -21,7 +21,9 @@ returns-clause-items c k below =
     let v = c.value.inside in
     let m = c.care.inside in
     let is = written a.words.items c.put_marked.new.words a.words.len (sym a.words.ok.0) (omega arith) in
-    rw (← c.self.view_is, ← c.value.view_is, ← c.care.view_is, is) (marked_at c.put_marked.new.words a.words.items v.words.items m.words.items a.count v.count m.count c.min-n.result k
+    rw (← c.self.view_is, ← c.value.view_is, ← c.care.view_is, is) (marked_at c.put_marked.new.words
+    a.words.items v.words.items m.words.items a.count v.count m.count c.min-n.result k
     c.deref_mut.ensures.value c.deref.ensures.value c.deref-2.ensures.value
-    (omega (arith, count_is a _ c.self.view_is, count_is m _ c.care.view_is)) (omega (arith, count_is v _ c.value.view_is, count_is m _ c.care.view_is))
+    (omega (arith, count_is a _ c.self.view_is, count_is m _ c.care.view_is))
+    (omega (arith, count_is v _ c.value.view_is, count_is m _ c.care.view_is))
     c.put_marked.ensures.front c.put_marked.ensures.following (omega (arith, count_is a _ c.self.view_is)))

@@ -13,7 +13,8 @@ returns-in-Some-clause-number c =
     ∙ ap (λ (names : List (List ℕ)). number_in names c.args.name.now.items) c.self.view_is
 
 pub returns-in-Some-clause-distinct : goal.returns-in-Some-clause-distinct
-returns-in-Some-clause-distinct c = subst AreDistinct c.self.view_is (distinct (λ k. k.items) (keys c.self.inside.numbered) c.get_index_of.ensures.unique)
+returns-in-Some-clause-distinct c = subst AreDistinct c.self.view_is
+    (distinct (λ k. k.items) (keys c.self.inside.numbered) c.get_index_of.ensures.unique)
 
 pub returns-in-None-clause-number : goal.returns-in-None-clause-number
 returns-in-None-clause-number c =
@@ -23,4 +24,5 @@ returns-in-None-clause-number c =
     ∙ ap (λ (names : List (List ℕ)). number_in names c.args.name.now.items) c.self.view_is
 
 pub returns-in-None-clause-distinct : goal.returns-in-None-clause-distinct
-returns-in-None-clause-distinct c = subst AreDistinct c.self.view_is (distinct (λ k. k.items) (keys c.self.inside.numbered) c.get_index_of.ensures.unique)
+returns-in-None-clause-distinct c = subst AreDistinct c.self.view_is
+    (distinct (λ k. k.items) (keys c.self.inside.numbered) c.get_index_of.ensures.unique)

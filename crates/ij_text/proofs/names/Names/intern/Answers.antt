@@ -1,4 +1,5 @@
-use Rattle.std.proofs.Common.{◌≡◌, length, length-append, arith, List, ℕ, sym, ap, ◌∙◌, map, None, [], ◌∷◌, ◌++◌}
+use Rattle.std.proofs.Common.{◌≡◌, length, length-append, arith, List, ℕ, sym, ap, ◌∙◌, map, None, [], ◌∷◌}
+use Rattle.std.proofs.Common.{◌++◌}
 use Rattle.std.specs.Map.{keys_of, values_of}
 use Rattle.indexmap.specs.IndexMap.{keys}
 use Rattle.ij_text.specs.Numbering.{number_in}
@@ -14,18 +15,23 @@ Entered c =
 
 entered : (c : goal.Joined-branch-4) → Entered c
 entered c =
-    let none : number_in c.args.self.now c.args.name.now.items ≡ None = sym c.find.ensures.number ∙ c.in_default.is in
-    let key : c.in_ok-key.key.items ≡ c.args.name.now.items = c.in_ok-key.ensures.items ∙ c.as_slice.ensures in
+    let none : number_in c.args.self.now c.args.name.now.items
+    ≡ None = sym c.find.ensures.number ∙ c.in_default.is in
+    let key : c.in_ok-key.key.items ≡ c.args.name.now.items =
+    c.in_ok-key.ensures.items ∙ c.as_slice.ensures in
     let in_keys : number_in (map (λ k. k.items) (keys c.self.inside.numbered)) c.in_ok-key.key.items ≡ None =
-    ap (number_in (map (λ k. k.items) (keys c.self.inside.numbered))) key ∙ ap (λ (names : List (List ℕ)). number_in names c.args.name.now.items) c.self.view_is ∙ none in (
+    ap (number_in (map (λ k. k.items) (keys c.self.inside.numbered))) key
+    ∙ ap (λ (names : List (List ℕ)). number_in names c.args.name.now.items) c.self.view_is ∙ none in (
       none,
       key,
       c.in_ok-insert.ensures.entries
-          ∙ inserted (λ k. k.items) c.self.inside.numbered.entries c.in_ok-key.key c.from.result (absent c.in_ok-key.key.items (map (λ k. k.items) (keys c.self.inside.numbered)) in_keys),
+          ∙ inserted (λ k. k.items) c.self.inside.numbered.entries c.in_ok-key.key c.from.result
+          (absent c.in_ok-key.key.items (map (λ k. k.items) (keys c.self.inside.numbered)) in_keys),
     )
 
 -- the names, with the new one
-names_are : (c : goal.Joined-branch-4) → map (λ k. k.items) (keys_of c.insert.new.self.entries) ≡ c.args.self.now ++ c.args.name.now.items ∷ []
+names_are : (c : goal.Joined-branch-4)
+    → map (λ k. k.items) (keys_of c.insert.new.self.entries) ≡ c.args.self.now ++ c.args.name.now.items ∷ []
 names_are c =
     let e = entered c in
     ap (λ es. map (λ (k : _). k.items) (keys_of es)) e.2
@@ -36,7 +42,8 @@ names_are c =
 pub invariant_of-self-2 : goal.invariant_of-self-2
 invariant_of-self-2 c =
     let e = entered c in
-    let value : c.from.result.items ≡ c.in_ok-key.key.items = c.from.ensures.0 ∙ c.in_ok-copy.ensures.items ∙ c.as_slice-2.ensures ∙ sym e.1 in
+    let value : c.from.result.items ≡ c.in_ok-key.key.items =
+    c.from.ensures.0 ∙ c.in_ok-copy.ensures.items ∙ c.as_slice-2.ensures ∙ sym e.1 in
     let long = ap length (names_are c) in
     let both = length-append c.args.self.now (c.args.name.now.items ∷ []) in (
       ap (λ es. map (λ (v : _). v.items) (values_of es)) e.2

@@ -21,9 +21,12 @@ pub returns-clause-ok : goal.returns-clause-ok
 returns-clause-ok c =
     let vs = c.self.inside.value.items in
     let cs = c.self.inside.care.items in
-    let value = c.push_reserved.ensures.items ∙ ap (λ (l : List Bool). l ++ c.eq.result ∷ []) c.reserve.ensures.items in
-    let care = c.push_reserved-2.ensures.items ∙ ap (λ (l : List Bool). l ++ c.is_some.result ∷ []) c.reserve-2.ensures.items in
+    let value = c.push_reserved.ensures.items
+    ∙ ap (λ (l : List Bool). l ++ c.eq.result ∷ []) c.reserve.ensures.items in
+    let care = c.push_reserved-2.ensures.items
+    ∙ ap (λ (l : List Bool). l ++ c.is_some.result ∷ []) c.reserve-2.ensures.items in
     ap (λ (l : List Bool). open_bits l c.push_reserved-2.new.self.items) value
     ∙ ap (open_bits (vs ++ c.eq.result ∷ [])) care
-    ∙ open_push vs cs c.args.bit c.eq.result c.is_some.result c.self.invariant.0 (c.eq.ensures ∙ one_is c.args.bit) c.is_some.ensures
+    ∙ open_push vs cs c.args.bit c.eq.result c.is_some.result c.self.invariant.0
+    (c.eq.ensures ∙ one_is c.args.bit) c.is_some.ensures
     ∙ ap (λ (l : List (Option Bool)). l ++ c.args.bit ∷ []) c.self.view_is

@@ -1,4 +1,5 @@
-use Rattle.std.proofs.Common.{◌≡◌, Option, Bool, List, None, Some, cond, false, length, length-append, get_or, map, arith, ap, sym, ◌∙◌, ◌++◌}
+use Rattle.std.proofs.Common.{◌≡◌, Option, Bool, List, None, Some, cond, false, length, length-append, get_or}
+use Rattle.std.proofs.Common.{map, arith, ap, sym, ◌∙◌, ◌++◌}
 use Rattle.ij_bits.specs.BitLists.{bits_of}
 use Rattle.ij_bits.proofs.WordBits.{length-bits_of}
 use Rattle.ij_text.specs.Numbers.{open_bits}
@@ -27,13 +28,17 @@ returns-clause-ok c =
     let cs = c.self.inside.care.items in
     let v = c.unless_open.result in
     let w = c.unless_open-2.result in
-    let value = c.append_number_reserved.ensures.items ∙ ap (λ (l : List Bool). l ++ bits_of n v) c.reserve.ensures.items in
-    let care = c.append_number_reserved-2.ensures.items ∙ ap (λ (l : List Bool). l ++ bits_of n w) c.reserve-2.ensures.items in
+    let value = c.append_number_reserved.ensures.items
+    ∙ ap (λ (l : List Bool). l ++ bits_of n v) c.reserve.ensures.items in
+    let care = c.append_number_reserved-2.ensures.items
+    ∙ ap (λ (l : List Bool). l ++ bits_of n w) c.reserve-2.ensures.items in
     ap (λ (l : List Bool). open_bits l c.append_number_reserved-2.new.self.items) value
     ∙ ap (open_bits (vs ++ bits_of n v)) care
     ∙ open_append vs cs (bits_of n v) (bits_of n w) c.self.invariant.0
-    ∙ ap (λ (l : List (Option Bool)). open_bits vs cs ++ l) (digit_is c.args.is_open n c.args.value v w c.requires.word c.unless_open.ensures c.unless_open-2.ensures)
-    ∙ ap (λ (l : List (Option Bool)). l ++ map (λ bit. cond c.args.is_open None (Some bit)) (bits_of n c.args.value)) c.self.view_is
+    ∙ ap (λ (l : List (Option Bool)). open_bits vs cs ++ l) (digit_is c.args.is_open n c.args.value v w
+    c.requires.word c.unless_open.ensures c.unless_open-2.ensures)
+    ∙ ap (λ (l : List (Option Bool)). l
+    ++ map (λ bit. cond c.args.is_open None (Some bit)) (bits_of n c.args.value)) c.self.view_is
 
 pub invariant_of-self-2 : goal.invariant_of-self-2
 invariant_of-self-2 c =
@@ -43,14 +48,24 @@ invariant_of-self-2 c =
     let v = c.unless_open.result in
     let w = c.unless_open-2.result in
     let value : c.append_number_reserved.new.self.items ≡ vs ++ bits_of n v =
-    c.append_number_reserved.ensures.items ∙ ap (λ (l : List Bool). l ++ bits_of n v) c.reserve.ensures.items in
+    c.append_number_reserved.ensures.items
+    ∙ ap (λ (l : List Bool). l ++ bits_of n v) c.reserve.ensures.items in
     let care : c.append_number_reserved-2.new.self.items ≡ cs ++ bits_of n w =
-    c.append_number_reserved-2.ensures.items ∙ ap (λ (l : List Bool). l ++ bits_of n w) c.reserve-2.ensures.items in
+    c.append_number_reserved-2.ensures.items
+    ∙ ap (λ (l : List Bool). l ++ bits_of n w) c.reserve-2.ensures.items in
     let long : length (vs ++ bits_of n v) ≡ length (cs ++ bits_of n w) =
-    omega (arith, length-append vs (bits_of n v), length-append cs (bits_of n w), length-bits_of n v, length-bits_of n w, c.self.invariant.0) in (
+    omega (
+      arith,
+      length-append vs (bits_of n v),
+      length-append cs (bits_of n w),
+      length-bits_of n v,
+      length-bits_of n w,
+      c.self.invariant.0,
+    ) in (
       ap length value ∙ long ∙ sym (ap length care),
       λ k e. ap (λ (l : List Bool). get_or l k false) value
           ∙ zero_append vs cs (bits_of n v) (bits_of n w) c.self.invariant.0 c.self.invariant.1
-          (digit_zero c.args.is_open n c.args.value v w c.requires.word c.unless_open.ensures c.unless_open-2.ensures) k
+          (digit_zero c.args.is_open n c.args.value v w c.requires.word
+          c.unless_open.ensures c.unless_open-2.ensures) k
           (sym (ap (λ (l : List Bool). get_or l k false) care) ∙ e),
     )

@@ -15,9 +15,12 @@ pub returns-in-Err-clause-stop : goal.returns-in-Err-clause-stop
 returns-in-Err-clause-stop g c =
     let name : List ℕ = c.args.self.now.svf.now in
     let it : SeenAccepted = seen_accepted c.args.it.now in
-    let k : Counts = counts g.S.Shelf.load_faults g.S.Shelf.store_faults g.O.Sink.faults c.args.shelf.now c.write_test.new.shelf c.args.out.now c.args.out.now in
-    subst (λ (s : Stop). IsLateStop (mux_tested name it) (task_of (mux_test (seen_mux_test c.args.self.now))) k s) (sym c.of_file.ensures.stop)
-    (file_stops (mux_tested name it) (task_of (mux_test (seen_mux_test c.args.self.now))) k name c.in-Err.fault
+    let k : Counts = counts g.S.Shelf.load_faults g.S.Shelf.store_faults g.O.Sink.faults c.args.shelf.now
+    c.write_test.new.shelf c.args.out.now c.args.out.now in
+    subst (λ (s : Stop). IsLateStop (mux_tested name it)
+    (task_of (mux_test (seen_mux_test c.args.self.now))) k s) (sym c.of_file.ensures.stop)
+    (file_stops (mux_tested name it)
+    (task_of (mux_test (seen_mux_test c.args.self.now))) k name c.in-Err.fault
     (λ failed. can_test name it c.in_ok-test.ensures.follows) (inl refl) c.in-Err.ensures.cause.failed)
 
 pub returns-in-Err-clause-part : goal.returns-in-Err-clause-part
@@ -34,4 +37,5 @@ returns-clause-part g c =
     let it : SeenAccepted = seen_accepted c.args.it.now in
     let old : Seen = seen g.S.Shelf.files g.O.Sink.taken c.args.shelf.now c.args.out.now in
     let new : Seen = seen g.S.Shelf.files g.O.Sink.taken c.write_test.new.shelf c.print_test.new.out in
-    lines_part name it c.in_ok-test.ensures.follows old new c.in-Ok.ensures.whole c.in-Err-print_test.ensures.part
+    lines_part name it c.in_ok-test.ensures.follows old new
+    c.in-Ok.ensures.whole c.in-Err-print_test.ensures.part

@@ -9,5 +9,6 @@ pub returns-in-Err-clause-part : goal.returns-in-Err-clause-part
 returns-in-Err-clause-part g c =
     let name : List ℕ = c.args.self.now.new_svf.now in
     let it : SeenAccepted = seen_accepted c.args.it.now in
-    file_part (explained name it) (g.S.Shelf.files c.args.shelf.now) (g.S.Shelf.files c.write_notes.new.shelf) (g.O.Sink.taken c.args._out.now)
+    file_part (explained name it) (g.S.Shelf.files c.args.shelf.now)
+    (g.S.Shelf.files c.write_notes.new.shelf) (g.O.Sink.taken c.args._out.now)
     name (explained_of it) (tt, c.in_ok-check_length.ensures, refl) c.in-Err.ensures.part

@@ -17,7 +17,8 @@ returns-clause-part g c =
     let old = g.S.Shelf.files c.args.shelf.now in
     let new = g.S.Shelf.files c.write_file.new.shelf in
     let same : c.bytes.result.now ≡ bytes = c.bytes.ensures ∙ c.in_ok-text.ensures in
-    file_part (give (filed name bytes)) old new (g.O.Sink.taken c.args._out.now) name bytes refl (subst (λ (b : List ℕ). HoldsPart old new name b) same c.in-Err.ensures.part)
+    file_part (give (filed name bytes)) old new (g.O.Sink.taken c.args._out.now) name bytes refl
+    (subst (λ (b : List ℕ). HoldsPart old new name b) same c.in-Err.ensures.part)
 
 pub returns-in-Ok-clause-done : goal.returns-in-Ok-clause-done
 returns-in-Ok-clause-done g c =
@@ -26,4 +27,5 @@ returns-in-Ok-clause-done g c =
     let old = g.S.Shelf.files c.args.shelf.now in
     let new = g.S.Shelf.files c.write_file.new.shelf in
     let same : c.bytes.result.now ≡ bytes = c.bytes.ensures ∙ c.in_ok-text.ensures in
-    file_done (give (filed name bytes)) old new (g.O.Sink.taken c.args._out.now) name bytes refl (subst (λ (b : List ℕ). file_at new name ≡ option_map (λ _. Some b) old) same c.in-Ok.ensures.whole)
+    file_done (give (filed name bytes)) old new (g.O.Sink.taken c.args._out.now) name bytes refl
+    (subst (λ (b : List ℕ). file_at new name ≡ option_map (λ _. Some b) old) same c.in-Ok.ensures.whole)

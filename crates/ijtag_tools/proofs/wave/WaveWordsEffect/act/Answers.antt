@@ -20,8 +20,10 @@ returns-in-Err-clause-part g c =
     let w : Wave = seen_wave c.args.self.now in
     let it : SeenAccepted = seen_accepted c.args.it.now in
     let window = c.in_ok-window.window in
-    silent_part (waved w it) (g.S.Shelf.files c.args.shelf.now) (g.S.Shelf.files c.write_waves.new.shelf) (g.O.Sink.taken c.args._out.now)
-    w.new (waves_of w.kind w.play.network.top window it) (any_differs (differs_at it it.commands)) (window, c.in_ok-window.ensures, refl) c.in-Err.ensures.part
+    silent_part (waved w it) (g.S.Shelf.files c.args.shelf.now)
+    (g.S.Shelf.files c.write_waves.new.shelf) (g.O.Sink.taken c.args._out.now)
+    w.new (waves_of w.kind w.play.network.top window it) (any_differs (differs_at it it.commands))
+    (window, c.in_ok-window.ensures, refl) c.in-Err.ensures.part
 
 pub returns-in-Ok-clause-done : goal.returns-in-Ok-clause-done
 returns-in-Ok-clause-done g c =
@@ -31,14 +33,22 @@ returns-in-Ok-clause-done g c =
     let old = g.S.Shelf.files c.args.shelf.now in
     let new = g.S.Shelf.files c.write_waves.new.shelf in
     let printed = g.O.Sink.taken c.args._out.now in
-    subst (λ (d : Bool). IsDone (waved w it) (record { files = old; printed = printed }) (record { files = new; printed = printed }) d) (sym c.in-Ok.ensures.differs)
-    (silent_done (waved w it) old new printed w.new (waves_of w.kind w.play.network.top window it) (any_differs (differs_at it it.commands)) (window, c.in_ok-window.ensures, refl) c.in-Ok.ensures.whole)
+    subst (λ (d : Bool). IsDone (waved w it) (record { files = old; printed = printed })
+    (record { files = new; printed = printed }) d) (sym c.in-Ok.ensures.differs)
+    (silent_done (waved w it) old new printed w.new (waves_of w.kind w.play.network.top window it)
+    (any_differs (differs_at it it.commands))
+    (window, c.in_ok-window.ensures, refl) c.in-Ok.ensures.whole)
 
 pub returns-in-Err-clause-stop : goal.returns-in-Err-clause-stop
 returns-in-Err-clause-stop g c =
     let w : Wave = seen_wave c.args.self.now in
     let it : SeenAccepted = seen_accepted c.args.it.now in
     let window = c.in_ok-window.window in
-    let k : Counts = counts g.S.Shelf.load_faults g.S.Shelf.store_faults g.O.Sink.faults c.args.shelf.now c.write_waves.new.shelf c.args._out.now c.args._out.now in
+    let k : Counts = counts g.S.Shelf.load_faults g.S.Shelf.store_faults g.O.Sink.faults c.args.shelf.now
+    c.write_waves.new.shelf c.args._out.now c.args._out.now in
     subst (λ (s : Stop). IsLateStop (waved w it) (task_of (wave w)) k s) (sym c.of_file.ensures.stop)
-    (file_stops (waved w it) (task_of (wave w)) k w.new c.in-Err.fault (λ failed. (ran w.new (waves_of w.kind w.play.network.top window it) [] (any_differs (differs_at it it.commands)), (window, c.in_ok-window.ensures, refl))) (inl refl) c.in-Err.ensures.cause.failed)
+    (file_stops (waved w it) (task_of (wave w)) k w.new c.in-Err.fault (λ failed. (
+      ran w.new
+          (waves_of w.kind w.play.network.top window it) [] (any_differs (differs_at it it.commands)),
+      (window, c.in_ok-window.ensures, refl),
+    )) (inl refl) c.in-Err.ensures.cause.failed)

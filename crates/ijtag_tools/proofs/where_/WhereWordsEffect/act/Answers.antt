@@ -24,7 +24,8 @@ returns-in-Ok-clause-done g c =
     let old : Option (List ℕ) = g.O.Sink.taken c.args.out.now in
     let new : Option (List ℕ) = g.O.Sink.taken c.write.new.self in
     let line : c.bytes.result.now ≡ place_line scan bit it = c.bytes.ensures ∙ c.in_ok-place.ensures.line in
-    told_done (looked_up scan bit it) (g.S.Shelf.files c.args._shelf.now) old new (place_line scan bit it) differs (differs, c.in_ok-place.ensures.answer, refl) differs
+    told_done (looked_up scan bit it) (g.S.Shelf.files c.args._shelf.now) old new
+    (place_line scan bit it) differs (differs, c.in_ok-place.ensures.answer, refl) differs
     (subst (λ (b : List ℕ). Adds old new b) line c.in-Ok.ensures.whole) refl
 
 pub returns-clause-stop : goal.returns-clause-stop
@@ -33,10 +34,13 @@ returns-clause-stop g c =
     let bit : ℕ = c.args.self.now.bit in
     let it : SeenAccepted = seen_accepted c.args.it.now in
     let differs : Bool = differing c.in_ok-place.place.verdict in
-    let k : Counts = counts g.S.Shelf.load_faults g.S.Shelf.store_faults g.O.Sink.faults c.args._shelf.now c.args._shelf.now c.args.out.now c.write.new.self in
-    subst (λ (s : Stop). IsLateStop (looked_up scan bit it) (task_of (look_up (seen_where c.args.self.now))) k s) (sym c.of_output.ensures.stop)
+    let k : Counts = counts g.S.Shelf.load_faults g.S.Shelf.store_faults g.O.Sink.faults c.args._shelf.now
+    c.args._shelf.now c.args.out.now c.write.new.self in
+    subst (λ (s : Stop). IsLateStop (looked_up scan bit it)
+    (task_of (look_up (seen_where c.args.self.now))) k s) (sym c.of_output.ensures.stop)
     (output_stops (looked_up scan bit it) (task_of (look_up (seen_where c.args.self.now))) k c.in-Err.fault
-    (λ failed. (told (place_line scan bit it) differs, (differs, c.in_ok-place.ensures.answer, refl))) refl c.in-Err.ensures.cause.failed)
+    (λ failed. (told (place_line scan bit it) differs, (differs, c.in_ok-place.ensures.answer, refl)))
+    refl c.in-Err.ensures.cause.failed)
 
 pub returns-clause-part : goal.returns-clause-part
 returns-clause-part g c =
@@ -47,5 +51,6 @@ returns-clause-part g c =
     let old : Option (List ℕ) = g.O.Sink.taken c.args.out.now in
     let new : Option (List ℕ) = g.O.Sink.taken c.write.new.self in
     let line : c.bytes.result.now ≡ place_line scan bit it = c.bytes.ensures ∙ c.in_ok-place.ensures.line in
-    told_part (looked_up scan bit it) (g.S.Shelf.files c.args._shelf.now) old new (place_line scan bit it) differs (differs, c.in_ok-place.ensures.answer, refl)
+    told_part (looked_up scan bit it) (g.S.Shelf.files c.args._shelf.now) old new
+    (place_line scan bit it) differs (differs, c.in_ok-place.ensures.answer, refl)
     (subst (λ (b : List ℕ). AddsPart old new b) line c.in-Err.ensures.part)

@@ -6,7 +6,8 @@ use Rattle.merge_order.proofs.around.Around.add_read.Goals as goal
 pub loop-read-preserved : goal.loop-read-preserved
 loop-read-preserved c = record {
   rows = λ test.
-      around_step (λ r. places_in c.args.tree.now r.bit.reg) c.args.reads.now c.loop-read.read-index _ test (list_any test c.args.self.now.rows.items) (list_any test c.loop-read.self.rows.items) _
+      around_step (λ r. places_in c.args.tree.now r.bit.reg) c.args.reads.now c.loop-read.read-index _ test
+      (list_any test c.args.self.now.rows.items) (list_any test c.loop-read.self.rows.items) _
       c.loop-read-test.true (c.loop-read.invariant.rows test) (c.in_ok-add.ensures.rows test);
   last = c.in_ok-add.ensures.last;
 }

@@ -8,6 +8,7 @@ use Rattle.merge_order.proofs.around.Around.add_read.Given as goal
 
 abbrev pub invariant-loop-read : goal.invariant-loop-read
 invariant-loop-read l = record {
-  rows : (test : Branch → Bool) → list_any test l.self.rows.items ≡ (list_any test l.fn.self.rows.items || list_any test (flat_map (λ r. places_in l.tree r.bit.reg) (take l.read-index l.reads)));
+  rows : (test : Branch → Bool) → list_any test l.self.rows.items ≡ (list_any test l.fn.self.rows.items ||
+      list_any test (flat_map (λ r. places_in l.tree r.bit.reg) (take l.read-index l.reads)));
   last : HasLast (places_in l.tree) l.self;
 }

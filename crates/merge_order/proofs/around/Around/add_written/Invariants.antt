@@ -8,6 +8,7 @@ use Rattle.merge_order.proofs.around.Around.add_written.Given as goal
 
 abbrev pub invariant-loop-write : goal.invariant-loop-write
 invariant-loop-write l = record {
-  rows : (test : Branch → Bool) → list_any test l.self.rows.items ≡ (list_any test l.fn.self.rows.items || list_any test (flat_map (λ w. places_in l.tree w.bit.reg) (take l.write-index l.writes)));
+  rows : (test : Branch → Bool) → list_any test l.self.rows.items ≡ (list_any test l.fn.self.rows.items ||
+      list_any test (flat_map (λ w. places_in l.tree w.bit.reg) (take l.write-index l.writes)));
   last : HasLast (places_in l.tree) l.self;
 }

@@ -13,6 +13,9 @@ returns-clause-bits c = λ b k.
     let there = k == c.args.join in
     let old = has_bit c.args.self.now b k in
     let middle = has_bit c.add_written.new.self b k in
-    both_put there (list_any (λ w. same_place b w.bit) g.writes) (list_any (λ r. same_place b r.bit) g.reads) old middle (has_bit c.add_read.new.self b k)
-    (c.in_ok-add_written.ensures.bits b k ∙ ap (λ l. there && list_any (λ w. same_place b w.bit) l || old) c.as_slice.ensures)
-    (c.in_ok-add_read.ensures.bits b k ∙ ap (λ l. there && list_any (λ r. same_place b r.bit) l || middle) c.as_slice-2.ensures)
+    both_put there (list_any (λ w. same_place b w.bit) g.writes)
+    (list_any (λ r. same_place b r.bit) g.reads) old middle (has_bit c.add_read.new.self b k)
+    (c.in_ok-add_written.ensures.bits b k
+    ∙ ap (λ l. there && list_any (λ w. same_place b w.bit) l || old) c.as_slice.ensures)
+    (c.in_ok-add_read.ensures.bits b k
+    ∙ ap (λ l. there && list_any (λ r. same_place b r.bit) l || middle) c.as_slice-2.ensures)

@@ -8,6 +8,7 @@ use Rattle.merge_order.proofs.bit_sets.BitSets.add_read.Given as goal
 
 abbrev pub invariant-loop-read : goal.invariant-loop-read
 invariant-loop-read l = record {
-  bits : (b : BitId) (k : ℕ) → has_bit l.self b k ≡ (k == l.join && list_any (λ r. same_place b r.bit) (take l.read-index l.reads) || has_bit l.fn.self b k);
+  bits : (b : BitId) (k : ℕ) → has_bit l.self b k ≡ (k == l.join && list_any (λ r. same_place b r.bit)
+      (take l.read-index l.reads) || has_bit l.fn.self b k);
   closed : (k : ℕ) → is_shut l.self k ≡ is_shut l.fn.self k;
 }

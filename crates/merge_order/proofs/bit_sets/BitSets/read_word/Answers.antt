@@ -10,5 +10,6 @@ loop-read-init c = λ j low. ap (λ b. b == 1) (bit_at-zero j)
 
 pub loop-read-preserved : goal.loop-read-preserved
 loop-read-preserved c = λ j low.
-    any_word (λ a. has_bit c.args.self.now a.bit (64 * c.args.w + j)) c.args.reads.now c.loop-read.read-index _ (bit_at c.loop-read.word j == 1) _ _
+    any_word (λ a. has_bit c.args.self.now a.bit (64 * c.args.w + j)) c.args.reads.now
+    c.loop-read.read-index _ (bit_at c.loop-read.word j == 1) _ _
     c.loop-read-test.true (c.loop-read.invariant j low) (c.bit_word.ensures j low) (c.either-word.ensures j)

@@ -5,4 +5,5 @@ use Rattle.merge_order.specs.Tables.{has_bit}
 use Rattle.merge_order.proofs.bit_sets.BitSets.read_word.Given as goal
 
 abbrev pub invariant-loop-read : goal.invariant-loop-read
-invariant-loop-read l = (j : ℕ) → j < 64 → (bit_at l.word j == 1) ≡ list_any (λ a. has_bit l.self a.bit (64 * l.w + j)) (take l.read-index l.reads)
+invariant-loop-read l = (j : ℕ) → j < 64
+    → (bit_at l.word j == 1) ≡ list_any (λ a. has_bit l.self a.bit (64 * l.w + j)) (take l.read-index l.reads)

@@ -11,5 +11,7 @@ use Rattle.merge_order.proofs.feeder.Feeder.feed.Goals as goal
 pub returns-clause-refused : goal.returns-clause-refused
 returns-clause-refused c =
     let old = seen_feed c.self.inside.feed in
-    let comes_to : AFeeder → feeding.Fed = λ f. feeding.feed f.net (places_in f.form) f.state (seen_step c.args.step.now) in
-    subst (λ (f : AFeeder). IfErr c.feed.result (Refuses (comes_to f))) c.self.view_is (refused_fed (comes_to old) old (seen_feed c.feed.new.self) c.feed.result c.feed.ensures.answer)
+    let comes_to : AFeeder
+    → feeding.Fed = λ f. feeding.feed f.net (places_in f.form) f.state (seen_step c.args.step.now) in
+    subst (λ (f : AFeeder). IfErr c.feed.result (Refuses (comes_to f))) c.self.view_is
+    (refused_fed (comes_to old) old (seen_feed c.feed.new.self) c.feed.result c.feed.ensures.answer)

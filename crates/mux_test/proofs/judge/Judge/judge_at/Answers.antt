@@ -6,8 +6,10 @@ pub returns-then-not-is_open-clause-rows : goal.returns-then-not-is_open-clause-
 returns-then-not-is_open-clause-rows c =
     let net = c.args.net.now in
     let holds = c.args.holds.now in
-    row_stays net holds c.args.rows.now.items c.args.i c.get-row.result.now c.get-row.ensures (c.if-not-is_open.ensures refl net holds)
+    row_stays net holds c.args.rows.now.items c.args.i c.get-row.result.now c.get-row.ensures
+    (c.if-not-is_open.ensures refl net holds)
 
 pub returns-clause-rows : goal.returns-clause-rows
 returns-clause-rows c =
-    row_put c.args.net.now c.args.holds.now c.args.rows.now.items c.set.new.self.items c.args.i c.get-row.result.now c.judge.result c.get-row.ensures c.judge.ensures.row c.set.ensures.items
+    row_put c.args.net.now c.args.holds.now c.args.rows.now.items c.set.new.self.items c.args.i
+    c.get-row.result.now c.judge.result c.get-row.ensures c.judge.ensures.row c.set.ensures.items

@@ -9,7 +9,8 @@ use Rattle.mux_test.proofs.judge.Judge.judge_rows.Given as goal
 abbrev pub invariant-loop-i : goal.invariant-loop-i
 invariant-loop-i l =
     record {
-      rows : l.rows.items ≡ map (judged_row l.net l.holds) (take l.i l.fn.rows.items) ++ drop l.i l.fn.rows.items;
+      rows : l.rows.items
+          ≡ map (judged_row l.net l.holds) (take l.i l.fn.rows.items) ++ drop l.i l.fn.rows.items;
       there : All (λ r. IsBranchOf l.net r.branch) l.rows.items;
       ready : IsReady l.net l.holds l.self;
     }

@@ -11,16 +11,19 @@ pub returns-then-is_passed-clause-verdict : goal.returns-then-is_passed-clause-v
 returns-then-is_passed-clause-verdict c =
     let net = c.args.net.now in
     let h = c.args.holds.now in
-    says_nothing h (route_of net h) (stuck_route net c.args.row h) (stuck_in_row net c.args.row h (c.if-is_passed.ensures refl))
+    says_nothing h (route_of net h) (stuck_route net c.args.row h)
+    (stuck_in_row net c.args.row h (c.if-is_passed.ensures refl))
 
 pub returns-then-not-is_met-clause-verdict : goal.returns-then-not-is_met-clause-verdict
 returns-then-not-is_met-clause-verdict c =
     let net = c.args.net.now in
     let h = c.args.holds.now in
-    says_nothing h (route_of net h) (stuck_route net c.args.row h) (stuck_unmet net c.args.row h (c.if-not-is_met.ensures.unmet refl))
+    says_nothing h (route_of net h) (stuck_route net c.args.row h)
+    (stuck_unmet net c.args.row h (c.if-not-is_met.ensures.unmet refl))
 
 pub verdict_met-requires-clause-path : goal.verdict_met-requires-clause-path
 verdict_met-requires-clause-path c =
     let t = c.requires.testable in
-    let (path, e) = has_path c.args.net.now c.args.tree.now t.well_formed t.describes t.lawful c.args.holds.now c.requires.scannable in
+    let (path, e) = has_path c.args.net.now c.args.tree.now t.well_formed t.describes t.lawful
+    c.args.holds.now c.requires.scannable in
     ap is_some e

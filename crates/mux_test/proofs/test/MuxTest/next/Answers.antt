@@ -14,4 +14,5 @@ go_on-requires-clause-after c =
     let planned = c.get-planned.result.now in
     let within : i < length scans = omega (arith, c.self.invariant.4, c.if-self-len.false, c.len.ensures) in
     let next = write_all c.self.inside.holds planned.plan.writes.items in
-    flushable_now net next (map seen_planned (drop (i + 1) scans)) (next_can net scans i planned within c.get-planned.ensures c.self.inside.holds next refl c.self.invariant.1)
+    flushable_now net next (map seen_planned (drop (i + 1) scans)) (next_can net scans i planned within
+    c.get-planned.ensures c.self.inside.holds next refl c.self.invariant.1)

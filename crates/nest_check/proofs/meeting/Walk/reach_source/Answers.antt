@@ -7,8 +7,11 @@ use Rattle.nest_check.proofs.meeting.Walk.reach_source.Goals as goal
 
 pub reach-requires-clause-met : goal.reach-requires-clause-met
 reach-requires-clause-met c =
-    subst (IsMet c.args.net.now) (reg_from c.args.net.now c.args.reg c.get.result.now c.requires.there c.get.ensures) (BeforeRegister c.args.reg c.requires.met)
+    subst (IsMet c.args.net.now) (reg_from c.args.net.now c.args.reg c.get.result.now c.requires.there
+    c.get.ensures) (BeforeRegister c.args.reg c.requires.met)
 
 pub returns-clause-passed : goal.returns-clause-passed
 returns-clause-passed c =
-    subst (λ p. OnOk c.reach.result (flags.is_flagged (flags.items c.reach.new.self.flags) p ≡ true)) (sym (reg_from c.args.net.now c.args.reg c.get.result.now c.requires.there c.get.ensures)) c.reach.ensures.flagged
+    subst (λ p. OnOk c.reach.result (flags.is_flagged (flags.items c.reach.new.self.flags) p ≡ true))
+    (sym (reg_from c.args.net.now c.args.reg c.get.result.now c.requires.there c.get.ensures))
+    c.reach.ensures.flagged

@@ -1,4 +1,5 @@
-use Rattle.std.proofs.Common.{◌≡◌, ℕ, zero, suc, ◌+◌, ◌-◌, ◌<◌, ◌≤◌, List, [], ◌∷◌, ◌++◌, Some, None, sym, ap, ◌∙◌, refl, arith, append_assoc}
+use Rattle.std.proofs.Common.{◌≡◌, ℕ, zero, suc, ◌+◌, ◌-◌, ◌<◌, ◌≤◌, List, [], ◌∷◌, ◌++◌, Some, None, sym, ap}
+use Rattle.std.proofs.Common.{◌∙◌, refl, arith, append_assoc}
 use Rattle.std.proofs.lemmas.List.{append-nil}
 use Rattle.nest_check.specs.Tables.{around_at, climbed, climbed_on}
 use Rattle.nest_check.specs.declared.place.Level.{Level}
@@ -6,7 +7,8 @@ use Rattle.nest_check.specs.declared.tables.Around.{Around}
 use Rattle.nest_check.proofs.tables.Tables.climbed.Goals as goal
 use Rattle.nest_check.proofs.tables.Tables.climbed.Goals.{else-loop-step-test, then-loop-step-test+in-None}
 
-one_more : (n i here : ℕ) (met : List Around) (a : Around) → i < n → around_at met here ≡ Some a → climbed (n - i) met here ≡ a.level ∷ climbed (n - (i + 1)) met a.outer
+one_more : (n i here : ℕ) (met : List Around) (a : Around) → i < n → around_at met here ≡ Some a
+    → climbed (n - i) met here ≡ a.level ∷ climbed (n - (i + 1)) met a.outer
 one_more n i here met a l e =
     let left : n - i ≡ suc (n - (i + 1)) = omega (arith, l) in
     ap (λ k. climbed k met here) left ∙ ap (climbed_on (climbed (n - (i + 1)) met)) e
@@ -23,10 +25,12 @@ whole xs ys all e h = sym (append-nil xs) ∙ ap (λ l. xs ++ l) (sym e) ∙ h
 
 pub loop-step-preserved : goal.loop-step-preserved
 loop-step-preserved c =
-    let rest = climbed (c.args.from - (c.loop-step._step + 1)) c.args.self.now.met.items c.in-Some.around.outer in
+    let rest =
+    climbed (c.args.from - (c.loop-step._step + 1)) c.args.self.now.met.items c.in-Some.around.outer in
     ap (λ l. l ++ rest) c.in_ok-push-in-Some.ensures.items
     ∙ append_assoc c.loop-step.levels.items (c.in-Some.around.level ∷ []) rest
-    ∙ ap (λ l. c.loop-step.levels.items ++ l) (sym (one_more c.args.from c.loop-step._step c.loop-step.here c.args.self.now.met.items c.in-Some.around c.loop-step-test.true (sym c.in-Some.ensures)))
+    ∙ ap (λ l. c.loop-step.levels.items ++ l) (sym (one_more c.args.from c.loop-step._step c.loop-step.here
+    c.args.self.now.met.items c.in-Some.around c.loop-step-test.true (sym c.in-Some.ensures)))
     ∙ c.loop-step.invariant
 
 pub returns : goal.returns
@@ -36,6 +40,8 @@ returns c =
     let i = c.loop-step._step in
     let here = c.loop-step.here in
     elim c.loop-step-test.branch [
-      | else-loop-step-test w ↦ whole c.loop-step.levels.items (climbed (n - i) met here) (climbed n met n) (done n i here met w.loop-step-test.false) c.loop-step.invariant
-      | then-loop-step-test+in-None w ↦ whole c.loop-step.levels.items (climbed (n - i) met here) (climbed n met n) (none_more (n - i) here met (sym w.in-None.ensures)) c.loop-step.invariant
+      | else-loop-step-test w ↦ whole c.loop-step.levels.items (climbed (n - i) met here) (climbed n met n)
+          (done n i here met w.loop-step-test.false) c.loop-step.invariant
+      | then-loop-step-test+in-None w ↦ whole c.loop-step.levels.items (climbed (n - i) met here)
+          (climbed n met n) (none_more (n - i) here met (sym w.in-None.ensures)) c.loop-step.invariant
     ]

@@ -9,5 +9,10 @@ abbrev none : BitId
 none = record { reg = 0; pos = 0 }
 
 pub loop-bit-preserved : goal.loop-bit-preserved
-loop-bit-preserved c =
-    (subst (HaveFlags c.args.net.now) (sym c.note.ensures) (note_fits c.args.net.now (selected_of c.loop-bit.self) _ c.loop-bit.invariant.0), fold_item note c.args.select.now c.loop-bit.bit-index none (selected_of c.loop-bit.self) (selected_of c.note.new.self) (note_all (selected_of c.args.self.now) c.args.select.now) c.loop-bit-test.true c.note.ensures c.loop-bit.invariant.1)
+loop-bit-preserved c = (
+  subst (HaveFlags c.args.net.now) (sym c.note.ensures)
+      (note_fits c.args.net.now (selected_of c.loop-bit.self) _ c.loop-bit.invariant.0),
+  fold_item note c.args.select.now c.loop-bit.bit-index none (selected_of c.loop-bit.self)
+      (selected_of c.note.new.self) (note_all (selected_of c.args.self.now) c.args.select.now)
+      c.loop-bit-test.true c.note.ensures c.loop-bit.invariant.1,
+)

@@ -10,4 +10,5 @@ returns c =
     let i = c.args.i in
     let bits : List Bool = bits_of n c.args.self.now.found in
     let there : i < length bits = omega (arith, length-bits_of n c.args.self.now.found, c.requires.there) in
-    drop_more bits i false there ∙ ap (λ b. b ∷ drop (i + 1) bits) (get_or-bits_of n c.args.self.now.found i c.requires.there ∙ sym c.bit_of_number.ensures)
+    drop_more bits i false there ∙ ap (λ b. b ∷ drop (i + 1) bits)
+    (get_or-bits_of n c.args.self.now.found i c.requires.there ∙ sym c.bit_of_number.ensures)

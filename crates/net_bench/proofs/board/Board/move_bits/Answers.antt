@@ -17,7 +17,8 @@ returns-clause-found c =
     let bits : List Bool = bits_of p.count p.tdi in
     let some : 0 < length bits = omega (arith, length-bits_of p.count p.tdi, c.requires.some) in
     c.shift_many-found.ensures.out
-    ∙ sym (found_at_once c.args.self.now c.requires.can.tap c.requires.board c.requires.can.selected p.scan p.bit p.tms bits (masked (bits_of p.count p.expected) (bits_of p.count p.compared)) some)
+    ∙ sym (found_at_once c.args.self.now c.requires.can.tap c.requires.board c.requires.can.selected p.scan
+    p.bit p.tms bits (masked (bits_of p.count p.expected) (bits_of p.count p.compared)) some)
 
 pub returns-clause-state : goal.returns-clause-state
 returns-clause-state c =
@@ -27,7 +28,11 @@ returns-clause-state c =
     let n = c.shift_many-found.new.self in
     let bits : List Bool = bits_of p.count p.tdi in
     let some : 0 < length bits = omega (arith, length-bits_of p.count p.tdi, c.requires.some) in
-    ap (λ (t : TapState). record s { tap = t; stages = stages_of n; holds = n.holds }) (c.next_state-self.ensures ∙ ap (λ t. next t p.tms) c.requires.can.tap)
-    ∙ ap (λ (h : Holds). record s { tap = next ShiftDr p.tms; stages = stages_of n; holds = h }) c.shift_many-found.ensures.holds
-    ∙ ap (λ (st : Holds). record s { tap = next ShiftDr p.tms; stages = st }) c.shift_many-found.ensures.stages
-    ∙ sym (moved_at_once b c.requires.can.tap c.requires.board c.requires.can.selected p.scan p.bit p.tms bits (masked (bits_of p.count p.expected) (bits_of p.count p.compared)) some)
+    ap (λ (t : TapState). record s { tap = t; stages = stages_of n; holds = n.holds })
+    (c.next_state-self.ensures ∙ ap (λ t. next t p.tms) c.requires.can.tap)
+    ∙ ap (λ (h : Holds). record s { tap = next ShiftDr p.tms; stages = stages_of n; holds = h })
+    c.shift_many-found.ensures.holds
+    ∙ ap (λ (st : Holds). record s { tap = next ShiftDr p.tms; stages = st })
+    c.shift_many-found.ensures.stages
+    ∙ sym (moved_at_once b c.requires.can.tap c.requires.board c.requires.can.selected p.scan p.bit p.tms bits
+    (masked (bits_of p.count p.expected) (bits_of p.count p.compared)) some)

@@ -15,7 +15,8 @@ returns-clause-out c =
     let chain = c.args.self.now.chain.items in
     let n = c.args.n in
     let bits : List Bool = bits_of n c.args.tdi in
-    bits_of_part n c.shift_number.result (take n chain) (omega (arith, length-take n chain, c.requires.within)) c.shift_number.ensures.out
+    bits_of_part n c.shift_number.result (take n chain)
+    (omega (arith, length-take n chain, c.requires.within)) c.shift_number.ensures.out
     ∙ sym (shifted_out_few n chain bits c.requires.within (length-bits_of n c.args.tdi))
     ∙ ap (λ xs. shifted_out xs bits) (sym (packed_chain c.args.self.now c.requires.packed))
 
@@ -23,9 +24,11 @@ pub returns-clause-stages : goal.returns-clause-stages
 returns-clause-stages c =
     let now = c.args.self.now in
     let bits : List Bool = bits_of c.args.n c.args.tdi in
-    ap (λ b. put_chain now.path.items b now.stages) (c.shift_number.ensures.items ∙ sym (shifted_few c.args.n now.chain.items bits c.requires.within (length-bits_of c.args.n c.args.tdi)))
+    ap (λ b. put_chain now.path.items b now.stages) (c.shift_number.ensures.items ∙ sym
+    (shifted_few c.args.n now.chain.items bits c.requires.within (length-bits_of c.args.n c.args.tdi)))
     ∙ put_packed now (shifted now.chain.items bits) c.requires.packed
-    ∙ ap (λ xs. put_chain (route_of now.net.now now.holds) (shifted xs bits) (stages_of now)) (sym (packed_chain now c.requires.packed))
+    ∙ ap (λ xs. put_chain (route_of now.net.now now.holds) (shifted xs bits) (stages_of now))
+    (sym (packed_chain now c.requires.packed))
 
 pub returns-clause-packed : goal.returns-clause-packed
 returns-clause-packed c =
@@ -33,7 +36,14 @@ returns-clause-packed c =
     let k = c.requires.packed in
     let bits : List Bool = bits_of c.args.n c.args.tdi in
     let same : length c.shift_number.new.self.items ≡ length now.chain.items =
-    omega (arith, ap length c.shift_number.ensures.items, length-append (drop c.args.n now.chain.items) bits, length-drop c.args.n now.chain.items, length-bits_of c.args.n c.args.tdi, c.requires.within) in
+    omega (
+      arith,
+      ap length c.shift_number.ensures.items,
+      length-append (drop c.args.n now.chain.items) bits,
+      length-drop c.args.n now.chain.items,
+      length-bits_of c.args.n c.args.tdi,
+      c.requires.within,
+    ) in
     record {
       loaded = record {
         net = k.loaded.net;

@@ -10,7 +10,8 @@ use Rattle.pdl_meaning.proofs.direct.Direct.step.Goals as goal
 
 pub returns-in-Apply-clause-insts : goal.returns-in-Apply-clause-insts
 returns-in-Apply-clause-insts c =
-    kept_counted c.apply.result (Apply (map seen_group c.as_slice.result.now)) c.args.self.now c.apply.new.self c.apply.ensures.ok c.apply.ensures.err
+    kept_counted c.apply.result (Apply (map seen_group c.as_slice.result.now)) c.args.self.now
+    c.apply.new.self c.apply.ensures.ok c.apply.ensures.err
 
 pub returns-in-Run-clause-insts : goal.returns-in-Run-clause-insts
 returns-in-Run-clause-insts c =
@@ -24,5 +25,6 @@ pub returns-in-Reset-clause-insts : goal.returns-in-Reset-clause-insts
 returns-in-Reset-clause-insts c =
     let values = c.self-in-Reset.inside.values in
     ap (λ (s : SeenState). length s.insts) c.reset.ensures
-    ∙ step_counted values.net (machines_of values.models) Reset (with_reads values c.self-in-Reset.inside.reads.items)
+    ∙ step_counted values.net (machines_of values.models) Reset
+    (with_reads values c.self-in-Reset.inside.reads.items)
     ∙ ap (λ (d : SeenDirect). length d.state.insts) c.self-in-Reset.view_is

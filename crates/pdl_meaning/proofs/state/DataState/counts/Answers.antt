@@ -10,6 +10,11 @@ use Rattle.pdl_meaning.proofs.state.DataState.counts.Goals as goal
 pub returns : goal.returns
 returns c =
     let runners = c.self.inside.runners.items in
-    let here : c.args.inst < length runners = omega (arith, c.requires, ap (λ (v : SeenState). length v.insts) c.self.view_is, length-map runners running_of) in
+    let here : c.args.inst < length runners = omega (
+      arith,
+      c.requires,
+      ap (λ (v : SeenState). length v.insts) c.self.view_is,
+      length-map runners running_of,
+    ) in
     sym (log_is runners c.args.inst c.index.result.now here c.index.ensures)
     ∙ ap (λ (v : SeenState). get_or (map (λ x. x.log) v.insts) c.args.inst count_log.none) c.self.view_is

@@ -13,16 +13,19 @@ use Rattle.pdl_meaning.proofs.state.DataState.write.Goals as goal
 
 pub show_all-requires-clause-holds : goal.show_all-requires-clause-holds
 show_all-requires-clause-holds c =
-    write_held c.self.inside.net.now c.self.inside.holds c.write_bits.new.holds c.args.writes.now c.self.invariant.shape c.write_bits.ensures
+    write_held c.self.inside.net.now c.self.inside.holds c.write_bits.new.holds c.args.writes.now
+    c.self.invariant.shape c.write_bits.ensures
 
 pub invariant_of-self : goal.invariant_of-self
 invariant_of-self c =
     let s = c.self.inside in
     let now = c.show_all.ensures.running in
-    let back = with_items_is s.runners c.show_all.new.runners (now.count ∙ sym c.self.invariant.running.count ∙ sym s.runners.ok.0) in
+    let back = with_items_is s.runners c.show_all.new.runners
+    (now.count ∙ sym c.self.invariant.running.count ∙ sym s.runners.ok.0) in
     record {
       well_formed = c.self.invariant.well_formed;
-      shape = write_held s.net.now s.holds c.write_bits.new.holds c.args.writes.now c.self.invariant.shape c.write_bits.ensures;
+      shape = write_held s.net.now s.holds c.write_bits.new.holds c.args.writes.now
+          c.self.invariant.shape c.write_bits.ensures;
       running = subst (AreRunning s.net.now s.models.now.items c.write_bits.new.holds) (sym back) now;
     }
 
@@ -32,11 +35,20 @@ returns c =
     let net = s.net.now in
     let models = s.models.now.items in
     let after = c.write_bits.new.holds in
-    let back = with_items_is s.runners c.show_all.new.runners (c.show_all.ensures.running.count ∙ sym c.self.invariant.running.count ∙ sym s.runners.ok.0) in
-    let was = subst (AreRunning net models s.holds) (sym c.as_mut_slice.ensures.value) c.self.invariant.running in
-    let seen : Holds → List (Running Counts) → SeenState = λ h insts. record { net = net; models = models; holds = h; insts = insts } in
+    let back = with_items_is s.runners c.show_all.new.runners
+    (c.show_all.ensures.running.count ∙ sym c.self.invariant.running.count ∙ sym s.runners.ok.0) in
+    let was = subst (AreRunning net models s.holds)
+    (sym c.as_mut_slice.ensures.value) c.self.invariant.running in
+    let seen : Holds → List (Running Counts)
+    → SeenState = λ h insts. record { net = net; models = models; holds = h; insts = insts } in
     ap (λ (rs : List Runner). seen after (insts_of rs)) back
     ∙ ap (λ (insts : List (Running Counts)). seen after insts) (c.show_all.ensures.state s.holds was)
-    ∙ ap (λ (rs : List Runner). seen after (changes count_log net (machines_of models) s.holds after (insts_of rs))) c.as_mut_slice.ensures.value
-    ∙ ap (λ (h : Holds). seen h (changes count_log net (machines_of models) s.holds h (insts_of s.runners.items))) c.write_bits.ensures
-    ∙ ap (λ (v : SeenState). record v { holds = write_all v.holds c.args.writes.now; insts = changes count_log v.net (machines_of v.models) v.holds (write_all v.holds c.args.writes.now) v.insts }) c.self.view_is
+    ∙ ap (λ (rs : List Runner). seen after
+    (changes count_log net (machines_of models) s.holds after (insts_of rs))) c.as_mut_slice.ensures.value
+    ∙ ap (λ (h : Holds). seen h (changes count_log net (machines_of models) s.holds h
+    (insts_of s.runners.items))) c.write_bits.ensures
+    ∙ ap (λ (v : SeenState). record v {
+      holds = write_all v.holds c.args.writes.now;
+      insts = changes count_log
+          v.net (machines_of v.models) v.holds (write_all v.holds c.args.writes.now) v.insts;
+    }) c.self.view_is

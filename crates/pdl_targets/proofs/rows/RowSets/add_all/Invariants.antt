@@ -6,4 +6,6 @@ use Rattle.pdl_targets.specs.Rows.{exclude, excluded_at}
 use Rattle.pdl_targets.proofs.rows.RowSets.add_all.Given as goal
 
 abbrev pub invariant-loop-branch : goal.invariant-loop-branch
-invariant-loop-branch l = (b : Branch) (k : ℕ) → excluded_at l.self b k ≡ ((k == l.round && list_any (λ a. exclude a b) (take l.branch-index l.branches)) || excluded_at l.fn.self b k)
+invariant-loop-branch l = (b : Branch) (k : ℕ)
+    → excluded_at l.self b k ≡ ((k == l.round && list_any (λ a. exclude a b) (take l.branch-index l.branches))
+    || excluded_at l.fn.self b k)

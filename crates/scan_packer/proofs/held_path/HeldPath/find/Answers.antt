@@ -7,13 +7,25 @@ use Rattle.scan_packer.proofs.held_path.HeldPath.find.Goals as goal
 
 pub fill_held-requires-clause-there : goal.fill_held-requires-clause-there
 fill_held-requires-clause-there c =
-    all_there (length c.args.net.now.regs.items) c.as_slice.result.now (is_route c.args.net.now c.args.holds.now c.walk.new.route.items c.walk.ensures.path c.requires.well_formed c.as_slice.result.now (c.as_slice.ensures ∙ ap (λ (l : Listed ℕ). l.items) c.regs.ensures))
+    all_there (length c.args.net.now.regs.items) c.as_slice.result.now (is_route c.args.net.now
+    c.args.holds.now c.walk.new.route.items c.walk.ensures.path c.requires.well_formed
+    c.as_slice.result.now (c.as_slice.ensures ∙ ap (λ (l : Listed ℕ). l.items) c.regs.ensures))
 
 pub fill_held-requires-clause-room : goal.fill_held-requires-clause-room
 fill_held-requires-clause-room c =
-    let route = is_route c.args.net.now c.args.holds.now c.walk.new.route.items c.walk.ensures.path c.requires.well_formed c.as_slice.result.now (c.as_slice.ensures ∙ ap (λ (l : Listed ℕ). l.items) c.regs.ensures) in
-    omega (arith, chain_few c.args.net.now (reverse c.as_slice.result.now) c.requires.well_formed route c.args.holds.now c.requires.holds, c.requires.room.bits)
+    let route = is_route c.args.net.now c.args.holds.now c.walk.new.route.items c.walk.ensures.path
+    c.requires.well_formed c.as_slice.result.now
+    (c.as_slice.ensures ∙ ap (λ (l : Listed ℕ). l.items) c.regs.ensures) in
+    omega (
+      arith,
+      chain_few c.args.net.now (reverse c.as_slice.result.now) c.requires.well_formed route
+          c.args.holds.now c.requires.holds,
+      c.requires.room.bits,
+    )
 
 pub fill_held-requires-clause-short : goal.fill_held-requires-clause-short
 fill_held-requires-clause-short c =
-    chain_short c.args.net.now (reverse c.as_slice.result.now) c.requires.well_formed (is_route c.args.net.now c.args.holds.now c.walk.new.route.items c.walk.ensures.path c.requires.well_formed c.as_slice.result.now (c.as_slice.ensures ∙ ap (λ (l : Listed ℕ). l.items) c.regs.ensures)) c.args.holds.now c.requires.holds
+    chain_short c.args.net.now (reverse c.as_slice.result.now) c.requires.well_formed
+    (is_route c.args.net.now c.args.holds.now c.walk.new.route.items c.walk.ensures.path
+    c.requires.well_formed c.as_slice.result.now (c.as_slice.ensures
+    ∙ ap (λ (l : Listed ℕ). l.items) c.regs.ensures)) c.args.holds.now c.requires.holds

@@ -13,7 +13,8 @@ use Rattle.svf_audit.proofs.auditor.Auditor.data_scan.Goals as goal
 pub reach-requires-clause-tdo : goal.reach-requires-clause-tdo
 reach-requires-clause-tdo c =
     let a = c.args.self.now in
-    subst (λ n. HasLength n c.args.scan.now.tdo) (sym (kept_length c.kept_after-kept.result (seen_kept a.dr) (seen_scan c.args.scan.now) c.kept_after-kept.ensures.kept)) c.requires.fits.tdo
+    subst (λ n. HasLength n c.args.scan.now.tdo) (sym (kept_length c.kept_after-kept.result (seen_kept a.dr)
+    (seen_scan c.args.scan.now) c.kept_after-kept.ensures.kept)) c.requires.fits.tdo
 
 pub returns-clause-ok : goal.returns-clause-ok
 returns-clause-ok c =
@@ -29,11 +30,18 @@ returns-clause-ok c =
         dr = c.kept_after-kept.ensures.sound;
         marks = subst (λ n. HaveMarks n z.marks) (sym d.net) d.marks;
         within = d.within;
-        steps = subst (λ n. All (IsStep n) (map seen_step z.left.steps.now.items)) (sym d.net) (subst (λ s. All (IsStep a.registers.net.now) (map seen_step s.now.items)) (sym d.steps) c.requires.sound.steps);
+        steps = subst (λ n. All (IsStep n) (map seen_step z.left.steps.now.items)) (sym d.net)
+            (subst (λ s. All (IsStep a.registers.net.now) (map seen_step s.now.items))
+            (sym d.steps) c.requires.sound.steps);
       };
       net = d.net;
       device = ap (λ y. y.device.now) o;
       goes = λ rs n.
-          let e = d.ok rs n in
-          (e.0, e.1, e.2 ∙ data_goes a.registers.net.now a z c.kept_after-kept.result (seen_scan c.args.scan.now) rs e.0 (ap (λ y. y.linked) o) (ap (λ y. y.ir) o) (ap (λ y. y.scans) o) c.kept_after-kept.ensures.kept);
+          let e = d.ok rs n in (
+            e.0,
+            e.1,
+            e.2 ∙ data_goes a.registers.net.now a z c.kept_after-kept.result
+                (seen_scan c.args.scan.now) rs e.0 (ap (λ y. y.linked) o) (ap (λ y. y.ir) o)
+                (ap (λ y. y.scans) o) c.kept_after-kept.ensures.kept,
+          );
     }

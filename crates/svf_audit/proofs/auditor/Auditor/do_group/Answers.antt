@@ -22,7 +22,9 @@ pub does-requires-clause-group : goal.does-requires-clause-group
 does-requires-clause-group c =
     let a = c.args.self.now in
     let net = a.registers.net.now in
-    first_piece net (due a.registers.holds (work_left a.left)) (seen_group c.in-Some.group.now) (c.in-Some.ensures.group) (due_all (IsPiece net) a.registers.holds (work_left a.left) (left_pieces net a.left c.requires.steps))
+    first_piece net (due a.registers.holds (work_left a.left))
+    (seen_group c.in-Some.group.now) (c.in-Some.ensures.group)
+    (due_all (IsPiece net) a.registers.holds (work_left a.left) (left_pieces net a.left c.requires.steps))
 
 pub returns-in-Err-clause-err : goal.returns-in-Err-clause-err
 returns-in-Err-clause-err c =
@@ -36,7 +38,9 @@ returns-in-Err-clause-err c =
     let s = state_of a rs in
     let next = ok (scanned net a.device.now s x a.registers.after (note s g) (drop 1 d)) in
     group_goes net a.device.now s x a.registers.after g (drop 1 d) (group_is d g c.in-Some.ensures.group)
-    ∙ ap (λ es. need (does_writes g (changed net (path_in a.registers) a.registers.holds a.registers.after) a.registers.after) Write (need (does_reads g (path_in a.registers) a.registers.holds es) Read next)) (sym looks)
+    ∙ ap (λ es. need (does_writes g (changed net (path_in a.registers) a.registers.holds a.registers.after)
+    a.registers.after) Write (need (does_reads g (path_in a.registers) a.registers.holds es) Read next))
+    (sym looks)
     ∙ c.in-Err.ensures.does next
 
 pub returns-clause-ok : goal.returns-clause-ok
@@ -52,9 +56,12 @@ returns-clause-ok c =
     let s = state_of a rs in
     let next = ok (scanned net a.device.now s x a.registers.after (note s g) (drop 1 d)) in (
       note s g,
-      noted_as s g a.readings.items c.note.new.readings.items (a.scans + 1) n (add-one a.scans) c.in_ok-note.ensures,
+      noted_as s g a.readings.items c.note.new.readings.items
+          (a.scans + 1) n (add-one a.scans) c.in_ok-note.ensures,
       group_goes net a.device.now s x a.registers.after g (drop 1 d) (group_is d g c.in-Some.ensures.group)
-          ∙ ap (λ es. need (does_writes g (changed net (path_in a.registers) a.registers.holds a.registers.after) a.registers.after) Write (need (does_reads g (path_in a.registers) a.registers.holds es) Read next)) (sym looks)
+          ∙ ap (λ es. need (does_writes g
+          (changed net (path_in a.registers) a.registers.holds a.registers.after) a.registers.after) Write
+          (need (does_reads g (path_in a.registers) a.registers.holds es) Read next)) (sym looks)
           ∙ c.in_default-does.ensures.does next
           ∙ ap (λ ws. ok (scanned net a.device.now s x a.registers.after (note s g) ws)) (sym left),
     )

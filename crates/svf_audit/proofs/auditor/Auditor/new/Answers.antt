@@ -8,7 +8,8 @@ use Rattle.svf_audit.proofs.auditor.Auditor.new.Goals as goal
 
 pub returns-clause-sound : goal.returns-clause-sound
 returns-clause-sound c =
-    let these = subst (λ (xs : List BitStep). All (IsStep c.args.net.now) (map seen_step xs)) (sym (ap (λ z. z.items) c.all.ensures.steps)) c.requires.steps in
+    let these = subst (λ (xs : List BitStep). All (IsStep c.args.net.now) (map seen_step xs))
+    (sym (ap (λ z. z.items) c.all.ensures.steps)) c.requires.steps in
     record {
       registers = c.in_ok-registers.ensures.sound;
       still = c.in_ok-registers.ensures.still;
@@ -16,5 +17,6 @@ returns-clause-sound c =
       dr = c.nothing_kept-2.ensures.sound;
       marks = λ b h. c.in_ok-marks.ensures b (subst (λ n. IsBitOf n b) c.in_ok-registers.ensures.net h);
       within = c.all.ensures.within;
-      steps = subst (λ n. All (IsStep n) (map seen_step c.all.result.steps.now.items)) (sym c.in_ok-registers.ensures.net) these;
+      steps = subst (λ n. All (IsStep n) (map seen_step c.all.result.steps.now.items))
+          (sym c.in_ok-registers.ensures.net) these;
     }

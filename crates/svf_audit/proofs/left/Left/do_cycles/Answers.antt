@@ -12,7 +12,10 @@ loop-more-preserved c =
     let k = c.do_some_cycles-some.result in
     record {
       within = c.do_some_cycles-some.ensures.within;
-      held = held_on h k ws now more c.loop-more.invariant.held c.drop_redundant.ensures.work c.do_some_cycles-some.ensures.done;
-      same = cycles_done h c.loop-more.more k ws now more (omega arith) c.do_some_cycles-some.ensures.few c.drop_redundant.ensures.work c.do_some_cycles-some.ensures.done ∙ c.loop-more.invariant.same;
-      steps = c.do_some_cycles-some.ensures.steps ∙ c.drop_redundant.ensures.steps ∙ c.loop-more.invariant.steps;
+      held = held_on h k ws now more c.loop-more.invariant.held
+          c.drop_redundant.ensures.work c.do_some_cycles-some.ensures.done;
+      same = cycles_done h c.loop-more.more k ws now more (omega arith) c.do_some_cycles-some.ensures.few
+          c.drop_redundant.ensures.work c.do_some_cycles-some.ensures.done ∙ c.loop-more.invariant.same;
+      steps = c.do_some_cycles-some.ensures.steps
+          ∙ c.drop_redundant.ensures.steps ∙ c.loop-more.invariant.steps;
     }

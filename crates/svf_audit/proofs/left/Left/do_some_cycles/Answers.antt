@@ -12,4 +12,5 @@ pub returns-clause-done : goal.returns-clause-done
 returns-clause-done c =
     let l = c.args.self.now in
     let k = c.at_most-some.result in
-    some_cycles c.cycles_here.result k (work_left l) c.cycles_here.ensures.first c.at_most-some.ensures.some ∙ ap (λ r. replicate k Cycle ++ r) (sym (done_more l k))
+    some_cycles c.cycles_here.result k (work_left l) c.cycles_here.ensures.first c.at_most-some.ensures.some
+    ∙ ap (λ r. replicate k Cycle ++ r) (sym (done_more l k))

@@ -8,4 +8,5 @@ have_rows-requires-clause-holds c = shifted_shape c.args.self.now c.requires.sou
 pub returns-then-not-steers : goal.returns-then-not-steers
 returns-then-not-steers c =
     let r = c.args.self.now in
-    sym (sym (rows_stay r c.requires.shifted (sym c.steers.ensures ∙ c.if-not-steers.true)) ∙ c.requires.listed c.if-self.true)
+    sym (sym (rows_stay r c.requires.shifted (sym c.steers.ensures ∙ c.if-not-steers.true))
+    ∙ c.requires.listed c.if-self.true)

@@ -14,7 +14,8 @@ returns-clause-sound c =
       path_room = omega (arith, c.in_ok-rooms.ensures.path);
       next_room = omega (arith, c.in_ok-rooms.ensures.next);
       bits_room = c.in_ok-rooms.ensures.bits;
-      known = c.in_ok-rooms.ensures.no_bits ∙ sym (ap (bits_on (start_holds c.args.net.now)) c.in_ok-rooms.ensures.no_path);
+      known = c.in_ok-rooms.ensures.no_bits
+          ∙ sym (ap (bits_on (start_holds c.args.net.now)) c.in_ok-rooms.ensures.no_path);
       chain_room = c.in_ok-rooms.ensures.chain;
       moved_room = c.in_ok-rooms.ensures.moved;
     }

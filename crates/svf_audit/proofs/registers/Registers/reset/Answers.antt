@@ -16,7 +16,8 @@ returns-clause-sound c =
     record {
       net = k.net;
       selects = k.selects;
-      holds = reset_held c.args.self.now.net.now c.args.self.now.holds c.reset.new.self k.holds c.reset.ensures;
+      holds = reset_held c.args.self.now.net.now c.args.self.now.holds
+          c.reset.new.self k.holds c.reset.ensures;
       path_room = k.path_room;
       next_room = k.next_room;
       bits_room = k.bits_room;
@@ -28,7 +29,8 @@ returns-clause-sound c =
 pub returns-clause-still : goal.returns-clause-still
 returns-clause-still c =
     record {
-      same = c.reset-2.ensures ∙ ap (reset_holds c.args.self.now.net.now) c.requires.still.same ∙ sym c.reset.ensures;
+      same = c.reset-2.ensures
+          ∙ ap (reset_holds c.args.self.now.net.now) c.requires.still.same ∙ sym c.reset.ensures;
       ready = λ t. absurd (false≢true t);
       listed = λ t. absurd (false≢true t);
     }

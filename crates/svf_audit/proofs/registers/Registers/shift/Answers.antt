@@ -27,7 +27,8 @@ turn_all-requires-clause-turned c =
       found = record { path = c.requires.found.path; bits = c.requires.found.bits };
       fits = ap length c.requires.chain;
       long = c.requires.kept.tdi ∙ c.requires.fits ∙ sym (ap length c.requires.chain);
-      after = c.requires.still.same ∙ sym (put_chain-chain (path_in r) r.holds) ∙ ap (λ bs. put_chain (path_in r) bs r.holds) (sym c.requires.chain);
+      after = c.requires.still.same ∙ sym (put_chain-chain (path_in r) r.holds)
+          ∙ ap (λ bs. put_chain (path_in r) bs r.holds) (sym c.requires.chain);
       done = refl;
       room = omega (arith, ap length c.requires.chain, path_few r k, k.moved_room, c.clear.ensures.spare);
     }
@@ -44,13 +45,15 @@ returns-clause-shifted c =
     let new = c.turn_all.new.self in
     let tdi = seen_tdi c.args.kept.now in
     let t = c.turn_all.ensures.turned in
-    let all : length r.chain.items ≡ length new.chain.items = ap length c.requires.chain ∙ sym (c.requires.kept.tdi ∙ c.requires.fits) ∙ t.long in
+    let all : length r.chain.items ≡ length new.chain.items =
+    ap length c.requires.chain ∙ sym (c.requires.kept.tdi ∙ c.requires.fits) ∙ t.long in
     shifted_all new tdi (length r.chain.items) t all (
     c.turn_all.ensures.moves
     ∙ ap (λ xs. xs ++ differing r.bits.items r.chain.items tdi) c.clear.ensures.items
     ∙ ap (λ bs. differing bs r.chain.items tdi) c.requires.found.bits
     ∙ ap (λ xs. differing (bits_on r.holds (path_in r)) xs tdi) c.requires.chain
-    ∙ ap (λ (z : Registers). differing (bits_on z.holds (path_in z)) (chain (path_in z) z.holds) tdi) (sym c.turn_all.ensures.others)
+    ∙ ap (λ (z : Registers). differing (bits_on z.holds (path_in z)) (chain (path_in z) z.holds) tdi)
+    (sym c.turn_all.ensures.others)
     )
 
 pub returns-clause-listed : goal.returns-clause-listed
@@ -60,7 +63,8 @@ pub returns-clause-tdi : goal.returns-clause-tdi
 returns-clause-tdi c =
     let r = c.args.self.now in
     let t = c.turn_all.ensures.turned in
-    let all : length r.chain.items ≡ length c.turn_all.new.self.chain.items = ap length c.requires.chain ∙ sym (c.requires.kept.tdi ∙ c.requires.fits) ∙ t.long in
+    let all : length r.chain.items ≡ length c.turn_all.new.self.chain.items =
+    ap length c.requires.chain ∙ sym (c.requires.kept.tdi ∙ c.requires.fits) ∙ t.long in
     turned_all c.turn_all.new.self (seen_tdi c.args.kept.now) (length r.chain.items) t all
 
 pub returns-clause-net : goal.returns-clause-net

@@ -18,12 +18,15 @@ loop-word-preserved c =
     let tdi = seen_tdi c.args.kept.now in
     let v = c.loop-word.invariant in
     let at : min (64 * c.loop-word.word) c.len-n.result ≡ 64 * c.loop-word.word = omega arith in
-    let next : 64 * c.loop-word.word + c.min.result ≡ min (64 * (c.loop-word.word + 1)) c.len-n.result = omega arith in
+    let next : 64 * c.loop-word.word + c.min.result
+    ≡ min (64 * (c.loop-word.word + 1)) c.len-n.result = omega arith in
     record {
       turned = subst (IsTurned new tdi) next c.turn_word.ensures.turned;
-      moves = ap (to_move new tdi) (sym next) ∙ c.turn_word.ensures.moves ∙ ap (to_move c.loop-word.self tdi) (sym at) ∙ v.moves;
+      moves = ap (to_move new tdi) (sym next) ∙ c.turn_word.ensures.moves
+          ∙ ap (to_move c.loop-word.self tdi) (sym at) ∙ v.moves;
       long = c.turn_word.ensures.length ∙ v.long;
-      others = c.turn_word.ensures.others ∙ ap (λ (z : Registers). record z { chain = new.chain; after = new.after; moved = new.moved }) v.others;
+      others = c.turn_word.ensures.others ∙ ap
+          (λ (z : Registers). record z { chain = new.chain; after = new.after; moved = new.moved }) v.others;
     }
 
 pub returns-clause-turned : goal.returns-clause-turned

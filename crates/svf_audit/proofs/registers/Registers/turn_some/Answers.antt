@@ -27,5 +27,6 @@ loop-i-preserved c =
       turned = subst (IsTurned new tdi) at c.turn.ensures.turned;
       moves = ap (to_move new tdi) (sym at) ∙ c.turn.ensures.moves ∙ v.moves;
       long = c.turn.ensures.length ∙ v.long;
-      others = c.turn.ensures.others ∙ ap (λ (z : Registers). record z { chain = new.chain; after = new.after; moved = new.moved }) v.others;
+      others = c.turn.ensures.others ∙ ap
+          (λ (z : Registers). record z { chain = new.chain; after = new.after; moved = new.moved }) v.others;
     }

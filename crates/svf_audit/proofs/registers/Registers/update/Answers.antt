@@ -12,7 +12,8 @@ use Rattle.svf_audit.proofs.registers.Registers.update.Goals as goal
 pub put_bits-requires-clause-shape : goal.put_bits-requires-clause-shape
 put_bits-requires-clause-shape c =
     let r = c.args.self.now in
-    sym (shape_kept r.holds r.after (path_in r) r.chain.items c.requires.shifted.after c.requires.shifted.fits)
+    sym (shape_kept r.holds r.after
+    (path_in r) r.chain.items c.requires.shifted.after c.requires.shifted.fits)
 
 pub put_bits-requires-clause-there : goal.put_bits-requires-clause-there
 put_bits-requires-clause-there c =
@@ -45,7 +46,8 @@ returns-clause-still c =
     record {
       same = sym c.put_bits.ensures;
       ready = λ t.
-          let g = ready_then r c.put_bits.new.into c.requires.sound c.requires.found c.requires.shifted (sym c.steers.ensures ∙ not-true c.steers.result t) c.put_bits.ensures in
+          let g = ready_then r c.put_bits.new.into c.requires.sound c.requires.found c.requires.shifted
+          (sym c.steers.ensures ∙ not-true c.steers.result t) c.put_bits.ensures in
           record { found = record { path = g.0; bits = g.1 }; chain = g.2 };
       listed = λ t. ap (λ h. list_all (has_row h) r.net.now.muxes.items) c.put_bits.ensures ∙ c.requires.rows;
     }

@@ -5,9 +5,21 @@ use Rattle.svf_notes.proofs.bits.ScanBits.any_compared.Goals as goal
 pub any_one-requires : goal.any_one-requires
 any_one-requires c =
     let i = c.self.inside in
-    omega (arith, c.requires, count_is i.tdi.items i.compared.items i.expected.items i.found.items _ c.self.view_is c.self.invariant, c.self.invariant.compared)
+    omega (
+      arith,
+      c.requires,
+      count_is i.tdi.items i.compared.items i.expected.items i.found.items _
+          c.self.view_is c.self.invariant,
+      c.self.invariant.compared,
+    )
 
 pub returns : goal.returns
 returns c =
     let i = c.self.inside in
-    c.any_one.ensures ∙ compared_is i.tdi.items i.compared.items i.expected.items i.found.items _ c.self.view_is c.self.invariant c.args.at c.args.width (omega (arith, c.requires, count_is i.tdi.items i.compared.items i.expected.items i.found.items _ c.self.view_is c.self.invariant))
+    c.any_one.ensures ∙ compared_is i.tdi.items i.compared.items i.expected.items i.found.items _
+    c.self.view_is c.self.invariant c.args.at c.args.width (omega (
+      arith,
+      c.requires,
+      count_is i.tdi.items
+          i.compared.items i.expected.items i.found.items _ c.self.view_is c.self.invariant,
+    ))

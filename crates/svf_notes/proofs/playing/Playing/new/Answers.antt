@@ -21,5 +21,7 @@ returns-clause-scans c =
     let models = c.args.models.now.items in
     let player = c.new-player.result in
     ap (λ (b : SeenBench). scans_of (chip_of b) player.pins b.state) c.in_ok-bench.ensures
-    ∙ ap (λ (ps : List Pins). scans_of (fault_free count_log net device (machines_of models)) ps (power_up (fault_free count_log net device (machines_of models)))) c.new-player.ensures.pins
-    ∙ ap (λ (ms : List Machine). scans_of (fault_free count_log net device ms) (pins InReset 0 c.args.commands.now) (power_up (fault_free count_log net device ms))) (machines_are models)
+    ∙ ap (λ (ps : List Pins). scans_of (fault_free count_log net device (machines_of models)) ps
+    (power_up (fault_free count_log net device (machines_of models)))) c.new-player.ensures.pins
+    ∙ ap (λ (ms : List Machine). scans_of (fault_free count_log net device ms) (pins InReset 0
+    c.args.commands.now) (power_up (fault_free count_log net device ms))) (machines_are models)

@@ -1,4 +1,5 @@
-use Rattle.std.proofs.Common.{◌≡◌, ◌<◌, Bool, List, Option, Some, [], length, ap, sym, ◌∙◌, subst, arith, get_or, false}
+use Rattle.std.proofs.Common.{◌≡◌, ◌<◌, Bool, List, Option, Some, [], length, ap, sym, ◌∙◌, subst, arith}
+use Rattle.std.proofs.Common.{get_or, false}
 use Rattle.std.specs.Prelude.{unwrap_or}
 use Rattle.ij_bits.specs.BitLists.{bits_of}
 use Rattle.ij_bits.proofs.WordBits.{get_or-bits_of, length-bits_of}
@@ -11,7 +12,8 @@ bit_of_number-requires c =
     let count = c.in-Word.count in
     let bits = c.in-Word.bits in
     let here : c.args.self.now ≡ Some (bits_of count bits) = sym c.self.view_is ∙ ap seen_part c.in-Word.is in
-    let long : length (unwrap_or c.args.self.now []) ≡ count = ap (λ (p : Option (List Bool)). length (unwrap_or p [])) here ∙ length-bits_of count bits in
+    let long : length (unwrap_or c.args.self.now [])
+    ≡ count = ap (λ (p : Option (List Bool)). length (unwrap_or p [])) here ∙ length-bits_of count bits in
     let sound : IsStored (Word count bits) = subst IsStored c.in-Word.is c.self.invariant in
     omega (arith, sound.0, long, c.requires)
 
@@ -20,7 +22,9 @@ returns-in-Word c =
     let count = c.in-Word.count in
     let bits = c.in-Word.bits in
     let here : c.args.self.now ≡ Some (bits_of count bits) = sym c.self.view_is ∙ ap seen_part c.in-Word.is in
-    let long : length (unwrap_or c.args.self.now []) ≡ count = ap (λ (p : Option (List Bool)). length (unwrap_or p [])) here ∙ length-bits_of count bits in
+    let long : length (unwrap_or c.args.self.now [])
+    ≡ count = ap (λ (p : Option (List Bool)). length (unwrap_or p [])) here ∙ length-bits_of count bits in
     let within : c.args.k < count = omega (arith, long, c.requires) in
     c.bit_of_number.ensures
-    ∙ sym (ap (λ (p : Option (List Bool)). get_or (unwrap_or p []) c.args.k false) here ∙ get_or-bits_of count bits c.args.k within)
+    ∙ sym (ap (λ (p : Option (List Bool)). get_or (unwrap_or p []) c.args.k false) here
+    ∙ get_or-bits_of count bits c.args.k within)

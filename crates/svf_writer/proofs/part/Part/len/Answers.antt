@@ -7,5 +7,7 @@ use Rattle.svf_writer.proofs.part.Part.len.Goals as goal
 
 pub returns-in-Word : goal.returns-in-Word
 returns-in-Word c =
-    let here : c.args.self.now ≡ Some (bits_of c.in-Word.count c.in-Word.bits) = sym c.self.view_is ∙ ap seen_part c.in-Word.is in
-    sym (ap (λ (p : Option (List Bool)). length (unwrap_or p [])) here ∙ length-bits_of c.in-Word.count c.in-Word.bits)
+    let here : c.args.self.now ≡ Some (bits_of c.in-Word.count c.in-Word.bits) =
+    sym c.self.view_is ∙ ap seen_part c.in-Word.is in
+    sym (ap (λ (p : Option (List Bool)). length (unwrap_or p [])) here
+    ∙ length-bits_of c.in-Word.count c.in-Word.bits)

@@ -7,7 +7,8 @@ pub loop-pins-preserved : goal.loop-pins-preserved
 loop-pins-preserved c =
     let none : pins_at_hand c.loop-pins.self ≡ [] = no_pins _ c.in-None.ensures.pins in
     record {
-      pins = c.begin.ensures.pins ∙ sym (ap (λ ps. ps ++ later_pins c.loop-pins.self) none) ∙ c.loop-pins.invariant.pins;
+      pins = c.begin.ensures.pins ∙ sym (ap (λ ps. ps ++ later_pins c.loop-pins.self) none)
+          ∙ c.loop-pins.invariant.pins;
       rests = c.begin.ensures.rests ∙ c.loop-pins.invariant.rests;
       sound = c.begin.ensures.sound;
     }

@@ -11,12 +11,15 @@ returns-in-Some c =
     let k = c.args.k in
     let n = c.args.n in
     let len = c.args.self.now.scan.len in
-    let long : length bits ≡ len = has_length len (lent c.args.part) bits c.requires.sound (ap lent c.in-Some.is) in
-    bits_of_part n c.number.result (slice_range bits k (k + n)) (length-part bits k n (omega (arith, long, c.requires.within))) c.number.ensures
+    let long : length bits ≡ len =
+    has_length len (lent c.args.part) bits c.requires.sound (ap lent c.in-Some.is) in
+    bits_of_part n c.number.result (slice_range bits k (k + n))
+    (length-part bits k n (omega (arith, long, c.requires.within))) c.number.ensures
     ∙ ap (λ o. slice_range (unwrap_or (lent o) (replicate len c.args.value)) k (k + n)) (sym c.in-Some.is)
 
 pub returns-in-None : goal.returns-in-None
 returns-in-None c =
     let len = c.args.self.now.scan.len in
     c.same_bits.ensures ∙ sym (part-replicate len c.args.k c.args.n c.args.value c.requires.within)
-    ∙ ap (λ o. slice_range (unwrap_or (lent o) (replicate len c.args.value)) c.args.k (c.args.k + c.args.n)) (sym c.in-None.is)
+    ∙ ap (λ o. slice_range (unwrap_or (lent o) (replicate len c.args.value)) c.args.k (c.args.k + c.args.n))
+    (sym c.in-None.is)
