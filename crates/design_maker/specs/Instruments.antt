@@ -15,7 +15,7 @@ drawn_instrument g =
     let sibs = draw 4 width.1 in
     (fresh (1 + width.0) (1 + sibs.0), sibs.1)
 
--- so many instruments, and the generator after them
+-- this many instruments, and the generator after them
 abbrev pub drawn_instruments : ℕ → Lcg → List Instrument × Lcg
 drawn_instruments zero g = ([], g)
 drawn_instruments (suc n) g =

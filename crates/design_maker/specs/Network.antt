@@ -29,7 +29,7 @@ outer_of i zero = entry_of i
 outer_of i (suc zero) = entry_of i
 outer_of i (suc (suc j)) = sib_name i (suc j) ∷ codes "toSI" ∷ []
 
--- what stands next to SIB j inwards: the next SIB, or the register
+-- what is next to SIB j inwards: the next SIB, or the register
 abbrev pub inner_of : ℕ → ℕ → ℕ → List ℕ
 inner_of i sibs j = cond (j == sibs) (wrap_name i) (sib_name i (suc j))
 
@@ -38,7 +38,7 @@ sib_item i sibs j =
     instance (sib_name i j) (codes "Sib") (bound (codes "SI") (outer_of i j)
     ∷ bound (codes "fromSO") (inner_of i sibs j ∷ codes "SO" ∷ []) ∷ [])
 
--- so many SIBs, from j on
+-- this many SIBs, from j on
 abbrev pub sib_items : ℕ → ℕ → ℕ → ℕ → List SeenItem
 sib_items i sibs j zero = []
 sib_items i sibs j (suc n) = sib_item i sibs j ∷ sib_items i sibs (suc j) n

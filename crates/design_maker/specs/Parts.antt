@@ -1,4 +1,4 @@
--- Parts of a made design, which stand at no place of a text.
+-- Parts of a made design, which are at no place of a text.
 use Rattle.std.specs.Prelude.{◌≡◌, ℕ, false, List, [], ◌∷◌, ◌++◌, Option, Some, None, codes}
 use Rattle.ij_bits.specs.Room.{seen_list}
 use Rattle.icl_lexer.specs.declared.tree.PortKind.{PortKind}

@@ -52,7 +52,7 @@ turn_text t word =
     ++ (codes "\n  iRead net.w"
     ++ (decimal (suc t.at) ++ (codes ".ins.q " ++ (decimal word ++ codes "\n  iApply\n")))))))))
 
--- so many turns
+-- this many turns
 abbrev pub turns_text : ℕ → List Instrument → Lcg → List ℕ
 turns_text zero xs g = []
 turns_text (suc n) xs g =

@@ -28,7 +28,7 @@ impl Model for Width {
 }
 
 impl Width {
-    /// The width of so many bits.
+    /// The width of this many bits.
     pub fn new(bits: u32) -> Self
         requires { bits ≤ 32 }
         ensures { result ≡ bits }
@@ -109,7 +109,7 @@ fn draw_instrument(g: &mut Lcg64Xsh32) -> Instrument
     }
 }
 
-/// Draws so many instruments.
+/// Draws this many instruments.
 pub(crate) fn draw_instruments(
     alloc: Global,
     size: usize,

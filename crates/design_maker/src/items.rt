@@ -9,7 +9,9 @@ ghost use Rattle.design_maker.specs.Parts.{item, module_of, mux_row, port, seen_
 ghost use Rattle.design_maker.specs.Parts.{wide_port, width_parameter};
 
 use crate::signals::{NOWHERE, names, one, signal, whole_width};
-use icl_lexer::{Bind, Expr, Few, Item, Module, MuxRow, PortKind, Prop, Sig, SmallText, What};
+use icl_lexer::{
+    Bind, Expr, Item, Module, MuxRow, OneOrMore, PortKind, Prop, Sig, SmallText, What,
+};
 use ij_bits::{List, OutOfMemory};
 use std::alloc::Global;
 
@@ -205,10 +207,10 @@ pub(crate) fn bound_width(alloc: Global, value: Expr) -> Result<Bind, OutOfMemor
 }
 
 /// A sized number, as the one of a concatenation.
-pub(crate) fn sized(alloc: Global, text: &[u8]) -> Result<Few<Expr>, OutOfMemory>
+pub(crate) fn sized(alloc: Global, text: &[u8]) -> Result<OneOrMore<Expr>, OutOfMemory>
     ensures { IfOk result (λ value. seen_few seen_expr value ≡ ASized text.now ∷ []) }
 {
-    Ok(Few::one(Expr::Sized(SmallText::of(alloc, text)?)))
+    Ok(OneOrMore::one(Expr::Sized(SmallText::of(alloc, text)?)))
 }
 
 /// A row of a multiplexer that one number selects.
@@ -221,7 +223,7 @@ pub(crate) fn mux_row(alloc: Global, value: &[u8], source: &[u8]) -> Result<MuxR
         return Err(OutOfMemory);
     };
     Ok(MuxRow {
-        values: Few::one(value),
+        values: OneOrMore::one(value),
         source,
     })
 }

@@ -63,7 +63,7 @@ fn bound_outer(alloc: Global, i: u32, j: u32) -> Result<Bind, OutOfMemory>
     bound(alloc, b"SI", &[b"SI"])
 }
 
-/// What stands next to SIB j of instrument i inwards: the next SIB, or the register.
+/// What is next to SIB j of instrument i inwards: the next SIB, or the register.
 fn inner_name(alloc: Global, i: u32, sibs: u32, j: u32) -> Result<SureSink, OutOfMemory>
     requires { j ≤ sibs }
     ensures { IfOk result (λ name. name ≡ inner_of i sibs j) }

@@ -1,9 +1,9 @@
-// Expressions, signals and properties of a made design, which stand at no place of a text.
+// Expressions, signals and properties of a made design, which are at no place of a text.
 ghost use Rattle.std.specs.Prelude.{◌≡◌, ◌≤◌, ◌++◌, [], ◌∷◌, length, map, option_map, IfOk, OnOk};
 ghost use Rattle.icl_lexer.specs.Views.{bytes_of, seen_expr, seen_range, seen_sig};
 ghost use Rattle.design_maker.specs.Parts.{lowest, ranged, signal, the_width, whole_width};
 
-use icl_lexer::{Ends, Expr, Few, Range, Sig, SigWhat, Sign, SmallText};
+use icl_lexer::{Ends, Expr, OneOrMore, Range, Sig, SigWhat, Sign, SmallText};
 use ij_bits::{List, OutOfMemory};
 use ij_text::Place;
 use std::alloc::Global;
@@ -76,7 +76,11 @@ pub(crate) fn names(alloc: Global, words: &[&[u8]]) -> Result<List<SmallText>, O
 }
 
 /// A path with one more name.
-fn longer(alloc: Global, path: Few<SmallText>, word: &[u8]) -> Result<Few<SmallText>, OutOfMemory>
+fn longer(
+    alloc: Global,
+    path: OneOrMore<SmallText>,
+    word: &[u8],
+) -> Result<OneOrMore<SmallText>, OutOfMemory>
     ensures { IfOk result (λ more. map bytes_of more.items ≡ map bytes_of path.items ++ word.now ∷ []) }
 {
     let Ok(word) = SmallText::of(alloc, word) else {
@@ -87,11 +91,11 @@ fn longer(alloc: Global, path: Few<SmallText>, word: &[u8]) -> Result<Few<SmallT
 }
 
 /// A path of these bytes.
-fn path_of(alloc: Global, words: &[&[u8]]) -> Result<Few<SmallText>, OutOfMemory>
+fn path_of(alloc: Global, words: &[&[u8]]) -> Result<OneOrMore<SmallText>, OutOfMemory>
     requires { 1 ≤ length words.now }
     ensures { IfOk result (λ path. map bytes_of path.items ≡ map (λ word. word.now) words.now) }
 {
-    let mut path = Few::one(SmallText::of(alloc, words[0])?);
+    let mut path = OneOrMore::one(SmallText::of(alloc, words[0])?);
     for word in &words[1..] {
         path = longer(alloc, path, word)?;
     }

@@ -72,7 +72,7 @@ fn icl_text(alloc: Global, instruments: &List<Instrument>) -> Result<Text, OutOf
 /// (IEEE 1687-2014, ICL and PDL level 0; IEEE 1149.1-2013). The numbers in it are drawn from the generator
 /// `Lcg64Xsh32` of `seed`: the same seed and size give the same texts.
 ///
-/// Each instrument has 1 to 32 bits and stands after 1 to 4 SIBs. The procedure writes and reads one
+/// Each instrument has 1 to 32 bits and comes after 1 to 4 SIBs. The procedure writes and reads one
 /// instrument in each of its `2 * size` turns.
 ///
 /// # Errors

@@ -51,7 +51,7 @@ found_same s net models e n m stands reads =
     ∙ ap (λ (h : Holds). all net models h s.insts) stands.holds
     ∙ ap (λ (is : List (Running Counts)). all net models e.holds is) stands.insts
 
--- what stands after a round
+-- what comes after a round
 stands_next : (s after : SeenState) (net : Net) (models : List Model) (e : Direct Counts) (g : SeenGroup)
     → s.net ≡ net → s.models ≡ models → StandsFor s e → IsAfterWrites s g.writes after
     → StandsFor after (do_group count_log net (machines_of models) e g)

@@ -40,7 +40,7 @@ module _ (net : Net) (models : List Model) (s after : SeenState) (reads differ :
   machines_same : machines_of s.models ≡ map machine_of (map seen_model models)
   machines_same = ap machines_of m ∙ machines_are models
 
-  -- so many cycles
+  -- this many cycles
   pub after_run : (cycles : ℕ) → ((rs : Reads)
       → with_reads after rs ≡ run_cycles count_log s.net (machines_of s.models) cycles (with_reads s rs))
       → Keeps (kept_at net (map seen_model models) after reads differ)

@@ -19,7 +19,7 @@ pub record StandsFor (s : SeenState) (d : Direct Counts) : Type 0 where
   pub holds : s.holds ≡ d.holds
   pub insts : s.insts ≡ d.insts
 
--- so many reads were added, and so many that differ
+-- this many reads were added, and this many that differ
 pub record AreCounted (read differ : ℕ) (before after : Direct Counts) : Type 0 where
   pub reads : read + length before.reads ≡ length after.reads
   pub differs : differ + length (differing before) ≡ length (differing after)

@@ -69,7 +69,7 @@ module _ (net : Net) (w : IsNet net) (holds : Holds) (e : shape holds ≡ widths
         w.bits_within_limit,
       )
 
--- ---- parts of a scan that stand there or not
+-- ---- parts of a scan that are there or not
 
 part_long : (b : Bool) (bits : List Bool) (n : ℕ) → length bits ≡ n → HasLength n (cond b None (Some bits))
 part_long true bits n l = tt

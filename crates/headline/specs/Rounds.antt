@@ -15,7 +15,7 @@ use Rattle.pdl_targets.specs.Rounds.{groups}
 use Rattle.pdl_targets.specs.Laws.{HasPaths}
 use Rattle.pdl_targets.specs.SeenPlaces.{places_in}
 
--- no register stands in two rows of one mux
+-- no register is in two rows of one mux
 abbrev pub RegistersNeedOneRow : Type 0
 RegistersNeedOneRow = (net : Net) (form : Items) (r : ℕ)
     → Describes net form → ¬ IsExclusive (place_of form (Reg r))

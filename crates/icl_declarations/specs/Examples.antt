@@ -43,7 +43,7 @@ pub no_parameter : evaluate given item (AnOp sign Plus (AParam sign (codes "V"))
 unfolding evaluate operate
 no_parameter = refl
 
--- a text's fault stands at the parameter, or at what holds the text
+-- a text's fault is at the parameter, or at what holds the text
 pub text_parameter : integer given item (AParam sign (codes "T")) ≡ Err (WrongKind sign)
 unfolding evaluate operate
 text_parameter = refl
@@ -112,7 +112,7 @@ pub no_sized_zeros_above : value_in given item 3 (ASized (codes "4'b0100") ∷ [
 unfolding number_bits base_bits decimal_bits size_of sized_number evaluate value_in
 no_sized_zeros_above = refl
 
--- the left part stands high, and zeros are added on the left
+-- the left part is high, and zeros are added on the left
 pub two_parts : value_in given item 4 (ASized (codes "1'b1") ∷ ASized (codes "2'b00") ∷ [])
     ≡ Ok (Some false ∷ Some false ∷ Some true ∷ Some false ∷ [])
 unfolding number_bits base_bits decimal_bits size_of sized_number evaluate value_in

@@ -1,5 +1,5 @@
 -- What an expression is worth (IEEE 1687-2014: numbers, parameters and operators), or the first fault in it.
--- A fault of a parameter or of an operator stands at that token, and every other one at what holds the
+-- A fault of a parameter or of an operator is at that token, and every other one at what holds the
 -- expression.
 use Rattle.std.specs.Prelude.{ℕ, ◌+◌, ◌-◌, ◌*◌, ◌/◌, ◌%◌, ◌==◌, ◌^◌, Bool, true, false, ◌&&◌, cond, nat_lt}
 use Rattle.std.specs.Prelude.{List, [], ◌∷◌, map, Option, Some, None, Ok, Err}
@@ -83,7 +83,7 @@ operate at Rest a b = undivided at b (a % b)
 
 -- ---- expressions
 
--- where a fault of an expression's own value stands
+-- where a fault of an expression's own value is
 abbrev pub place_in : Place → SeenExpr → Place
 place_in holder (ADecimal n) = holder
 place_in holder (ASized text) = holder

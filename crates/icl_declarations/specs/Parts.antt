@@ -116,7 +116,7 @@ is_rival (AParameter local value) other = is_parameter other
 is_rival (AnAttribute value) other = false
 is_rival what other = is_signal other
 
--- whether the name of an item stands at one before it
+-- whether the name of an item is at one before it
 abbrev pub is_taken : List SeenItem → SeenItem → Bool
 is_taken before item =
     list_any (λ other. is_rival item.what other.what && bytes_eq item.name other.name) before

@@ -7,7 +7,7 @@ use Rattle.icl_lexer.specs.Values.{SeenWhat, SeenItem}
 use Rattle.icl_declarations.specs.declared.scope.Scope.{Scope}
 use Rattle.icl_declarations.specs.Parts.{is_part, is_signal}
 
--- the number of the first part of this name that passes a test, where so many parts stand before the items
+-- the number of the first part of this name that passes a test, where this many parts come before the items
 abbrev pub part_from : ℕ → (SeenWhat → Bool) → List SeenItem → List ℕ → Option ℕ
 part_from n test [] name = None
 part_from n test (item ∷ items) name =

@@ -10,7 +10,7 @@ use Rattle.icl_declarations.specs.Values.{OpenBits, number_bits}
 
 -- ---- the parts of the token
 
--- what stands before the `'` (39), and what stands after it
+-- what comes before the `'` (39), and what comes after it
 abbrev pub front : List ℕ → List ℕ
 front [] = []
 front (b ∷ bs) = cond (b == 39) [] (b ∷ front bs)
@@ -68,7 +68,7 @@ abbrev pub is_zero : Option Bool → Bool
 is_zero None = false
 is_zero (Some b) = not b
 
--- neither a 1 nor an x stands at the width or above
+-- neither a 1 nor an x is at the width or above
 abbrev pub fits : ℕ → OpenBits → Bool
 fits width bits = list_all is_zero (drop width bits)
 

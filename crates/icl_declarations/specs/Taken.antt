@@ -1,4 +1,4 @@
--- The names that stand at some items, in tables: one for each kind of items whose names differ among
+-- The names that are at some items, in tables: one for each kind of items whose names differ among
 -- themselves.
 use Rattle.std.specs.Prelude.{◌≡◌, ℕ, Bool, ◌&&◌, List, [], ◌∷◌, ◌++◌, is_some}
 use Rattle.std.specs.List.{list_any}

@@ -11,7 +11,7 @@ use ij_bits::OutOfMemory;
 use ij_text::{OpenBits, all_digits, decimal, hex_value};
 use std::alloc::Global;
 
-/// What stands before the `'`, and what stands after it.
+/// What comes before the `'`, and what comes after it.
 pub(crate) fn split(text: &[u8]) -> (&[u8], &[u8])
     ensures front { result.0.now ≡ front text.now }
     ensures after { result.1.now ≡ after text.now }

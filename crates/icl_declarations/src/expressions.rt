@@ -30,7 +30,7 @@ fn operate(at: Place, sign: Sign, a: u32, b: u32) -> Result<u32, ElabFault>
     }
 }
 
-/// Where a fault of an expression's own value stands: at a parameter, and otherwise at what holds the
+/// Where a fault of an expression's own value is: at a parameter, and otherwise at what holds the
 /// expression.
 pub fn place_in(e: &Expr, holder: Place) -> Place
     ensures { result ≡ place_in holder (seen_expr e.now) }
@@ -41,7 +41,7 @@ pub fn place_in(e: &Expr, holder: Place) -> Place
     }
 }
 
-/// What an expression is worth, which stands in `holder`.
+/// What an expression is worth, which is in `holder`.
 #[tactic(auto, unfolding(crate::specs::Expressions::evaluate))]
 pub fn evaluate(
     alloc: Global,

@@ -7,7 +7,7 @@ use ij_text::{Name, Place, Which};
 use std::alloc::{AllocError, AllocFailed};
 
 /// Why a design of ICL (IEEE 1687-2014) isn't elaborated: the first fault that is met. A fault of a parameter
-/// or of an operator stands at that token; every other one stands at the innermost signal, range, binding or
+/// or of an operator is at that token; every other one is at the innermost signal, range, binding or
 /// item that holds it.
 #[derive(Drop)]
 pub enum ElabFault {
@@ -33,7 +33,7 @@ pub enum ElabFault {
     WrongKind { at: Place },
     /// Two rows of a multiplexer match one value.
     RowsOverlap { at: Place },
-    /// A module stands inside itself.
+    /// A module is inside itself.
     InstanceLoop { at: Place },
     /// More than this compiler takes.
     Limit { which: Which, number: u64 },

@@ -8,7 +8,7 @@ use ij_bits::{OutOfMemory, Tern};
 use ij_text::{FitFault, Number, fit};
 use std::alloc::Global;
 
-/// The bits below a width, with zeros past their end, where neither a 1 nor an x stands at the width or
+/// The bits below a width, with zeros past their end, where neither a 1 nor an x is at the width or
 /// above.
 pub(crate) fn fitted(alloc: Global, t: Tern, width: u32) -> Result<Option<Tern>, OutOfMemory>
     ensures { IfOk result (λ o. option_map tern_bits o ≡ within_size width (tern_bits t)) }

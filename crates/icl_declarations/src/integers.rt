@@ -29,7 +29,7 @@ fn closed_number(t: &Tern, at: Place) -> Result<u32, ElabFault>
     Ok(n)
 }
 
-/// A value where an integer is wanted, which stands here.
+/// A value where an integer is wanted, which is here.
 pub(crate) fn as_integer(value: &Value, at: Place) -> Result<u32, ElabFault>
     ensures { Gives same result (as_integer at (seen_value value.now)) }
 {

@@ -66,7 +66,7 @@ impl Scope {
         self.add(alloc, name, 0)
     }
 
-    /// Adds an item, before which so many parts stand, and answers how many stand after it.
+    /// Adds an item, before which this many parts stand, and answers how many stand after it.
     fn pass(&mut self, alloc: Global, item: &Item, part: u32) -> Result<u32, OutOfMemory>
         requires { part + 1 < 2 ^ 32 }
         ensures few { IfOk result (λ next. next ≤ part + 1) }

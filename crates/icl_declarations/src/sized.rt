@@ -20,7 +20,7 @@ use ij_bits::Tern;
 use ij_text::{Place, decimal, name_of};
 use std::alloc::Global;
 
-/// The value of a parameter that stands here.
+/// The value of a parameter that is here.
 pub(crate) fn parameter<'a>(
     alloc: Global,
     params: &'a ParamTable,
@@ -73,7 +73,7 @@ fn decimal_size(text: &[u8], at: Place) -> Result<Option<u32>, ElabFault>
     }
 }
 
-/// The size that stands before a `'`, if one does.
+/// The size that comes before a `'`, if one does.
 #[tactic(auto, unfolding(crate::specs::Expressions::size_of))]
 fn size_of(
     alloc: Global,

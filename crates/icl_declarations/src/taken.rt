@@ -1,4 +1,4 @@
-// The names that stand at some items.
+// The names that are at some items.
 ghost use Rattle.std.specs.Prelude.{◌≡◌, List, [], OnOk, OnErr};
 ghost use Rattle.icl_lexer.specs.Values.{SeenItem};
 ghost use Rattle.icl_lexer.specs.Views.{seen_item};
@@ -10,7 +10,7 @@ use icl_lexer::{Item, What};
 use ij_bits::OutOfMemory;
 use std::alloc::Global;
 
-/// The names that stand at some items: a table for each kind of items whose names differ among themselves.
+/// The names that are at some items: a table for each kind of items whose names differ among themselves.
 #[derive(Drop)]
 pub struct Taken {
     signals: Scope,

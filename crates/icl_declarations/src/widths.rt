@@ -54,7 +54,7 @@ pub fn integer_bits(alloc: Global, n: u32) -> Result<Tern, OutOfMemory>
     Ok(bits.into_tern())
 }
 
-/// A number alone, in a width. A text is one that stands at `at`.
+/// A number alone, in a width. A text is one that is at `at`.
 fn lone_in(
     alloc: Global,
     value: Value,

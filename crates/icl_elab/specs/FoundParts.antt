@@ -1,5 +1,5 @@
 -- The second pass of elaboration (IEEE 1687-2014, ICL): what each part of a cell is, its signals and values
--- resolved; or the first fault. The parts go in the order of the text, and in a part what stands in it from
+-- resolved; or the first fault. The parts go in the order of the text, and in a part what is in it from
 -- left to right.
 use Rattle.std.specs.Prelude.{ℕ, not, ◌&&◌, List, [], ◌∷◌, find, Option, Some, None, Ok, Err}
 use Rattle.std.specs.Str.{bytes_eq}

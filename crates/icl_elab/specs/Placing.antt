@@ -1,4 +1,4 @@
--- How the second pass gives each cell what its instance binds: where each cell's instance stands, and what
+-- How the second pass gives each cell what its instance binds: where each cell's instance is, and what
 -- the ports are then.
 use Rattle.std.specs.Prelude.{ℕ, ◌+◌, Bool, List, [], ◌∷◌, map, slice_get, slice_index_or, Option, Some, None}
 use Rattle.std.specs.Prelude.{unwrap_or, Ok}
@@ -18,7 +18,7 @@ use Rattle.icl_elab.specs.FoundParts.{Found}
 use Rattle.icl_elab.specs.SecondPass.{second_pass}
 use Rattle.icl_references.specs.Tables.{here_at}
 
--- ---- where a cell's instance stands
+-- ---- where a cell's instance is
 
 abbrev pub home_at : List (Option ℕ) → ℕ → Option ℕ
 home_at homes c = slice_index_or homes c None

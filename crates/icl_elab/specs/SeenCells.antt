@@ -10,7 +10,7 @@ use Rattle.icl_elab.specs.SeenParts.{seen_words}
 use Rattle.icl_elab.specs.declared.pass.Placed.{Placed}
 use Rattle.icl_elab.specs.declared.pass.CellParts.{CellParts}
 
--- what is found at a part that stands in its cell
+-- what is found at a part that is in its cell
 abbrev pub seen_placed : Placed → Found
 seen_placed p = record { role = seen_body p.part.body; words = seen_words p.part.words; bound = p.bound }
 

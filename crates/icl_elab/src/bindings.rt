@@ -123,7 +123,7 @@ impl Bindings {
         false
     }
 
-    /// Whether so many bits of a port are bound.
+    /// Whether this many bits of a port are bound.
     fn binds_all(&self, part: u32, wide: usize) -> bool
         ensures { result ≡ list_all (is_bound self.now part) (range_with_len 0 wide) }
     {

@@ -82,7 +82,7 @@ fn note_parts(tables: &Tables, homes: &mut [Option<usize>], here: u32, parts: &[
     }
 }
 
-/// So many cells without a home.
+/// This many cells without a home.
 fn no_homes(alloc: Global, count: usize) -> Result<Vec<Option<usize>>, OutOfMemory>
     ensures long { IfOk result (λ homes. length homes.items ≡ count) }
     ensures none { IfOk result (λ homes. (c : ℕ) → home_at homes.items c ≡ None) }
@@ -461,7 +461,7 @@ fn hierarchy_of(alloc: Global, design: &Design, top: &Name) -> Result<Hier, Elab
 
 /// The hierarchy of a design below its top module (IEEE 1687-2014, ICL: Module, Instance, Parameter): the
 /// instances that are reached, each before those in it, with parameters and ranges as numbers and each signal
-/// as single bits. Lists of bits begin at position 0, which stands nearest to TDO.
+/// as single bits. Lists of bits begin at position 0, which is nearest to TDO.
 ///
 /// The first fault that is met is the answer, in two passes over the cells. The first one tells what
 /// `first_pass` of `icl_frames` tells. The second goes over the items of each cell in the order of the text,

@@ -23,7 +23,7 @@ impl Model for Row {
     ghost view = { λ r. r.numbers.items };
 }
 
-/// Makes room for so many positions.
+/// Makes room for this many positions.
 fn grow(numbers: &mut Vec<Option<usize>>, len: usize) -> Result<(), OutOfMemory>
     ensures long { OnOk result (len ≤ vec_len numbers.new) }
     ensures same { (pos : ℕ) → mark_at numbers.new.items pos ≡ mark_at numbers.old.items pos }
@@ -34,7 +34,7 @@ fn grow(numbers: &mut Vec<Option<usize>>, len: usize) -> Result<(), OutOfMemory>
     Ok(())
 }
 
-/// Notes a number at the positions from `low` on that are free, so many of them.
+/// Notes a number at the positions from `low` on that are free, this many of them.
 fn fill(numbers: &mut [Option<usize>], low: usize, count: usize, number: usize)
     requires { low + count ≤ length numbers.old }
     ensures { (pos : ℕ) → mark_at numbers.new pos ≡ or_else (mark_at numbers.old pos)
@@ -92,7 +92,7 @@ impl Row {
     }
 }
 
-/// Makes room for so many parts.
+/// Makes room for this many parts.
 fn grow_rows(alloc: Global, rows: &mut Vec<Row>, len: usize) -> Result<(), OutOfMemory>
     ensures long { OnOk result (len ≤ vec_len rows.new) }
     ensures same { (part : ℕ) → row_at rows.new.items part ≡ row_at rows.old.items part }

@@ -92,8 +92,8 @@ read_braced r = read_in_turn (read_mark 123) (λ o. read_ended 125 r)
 abbrev pub read_leaf : Bool → ℕ → Reading Counted
 read_leaf alone used = read_one (leaf_at alone used)
 
--- the operator that a token is, with so many tokens left: refused where the expression may have no further
--- one, or where a sized number stands before
+-- the operator that a token is, with this many tokens left: refused where the expression may have no further
+-- one, or where a sized number comes before
 abbrev pub operator_of : ℕ → Bool → Option Signed → ℕ → List SeenToken
     → Result (Signed × List SeenToken) (Unfit Limit)
 operator_of spare lone None n ts = Err (n, None)

@@ -113,7 +113,7 @@ fn product<'a>(
     Ok(left)
 }
 
-/// What stands on the left, with the next operator and factor.
+/// What is on the left, with the next operator and factor.
 #[cycle(expressions)]
 #[tactic(auto, unfolding(crate::specs::Reading::read_operand))]
 fn with_factor<'a>(
@@ -155,7 +155,7 @@ fn sum<'a>(
     Ok(left)
 }
 
-/// What stands on the left, with the next operator and product.
+/// What is on the left, with the next operator and product.
 #[cycle(expressions)]
 #[tactic(auto, unfolding(crate::specs::Reading::read_operand))]
 fn with_product<'a>(

@@ -99,7 +99,7 @@ fn counted(expr: Expr, used: u32) -> Option<Counting>
     })
 }
 
-/// The expression that a token is: a sized number only where it stands alone.
+/// The expression that a token is: a sized number only where it is alone.
 fn leaf_value(
     alloc: Global,
     t: &Lexeme,

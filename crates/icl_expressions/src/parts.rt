@@ -10,7 +10,7 @@ ghost use Rattle.icl_expressions.specs.Reading.{read_parted, read_name, read_val
 use crate::reading::{Parsed, begins_mark, read_mark, read_name};
 use crate::signals::{read_sig, read_value};
 use crate::stop::Stop;
-use icl_lexer::{Cursor, Expr, Few, Sig, SmallText};
+use icl_lexer::{Cursor, Expr, OneOrMore, Sig, SmallText};
 use std::alloc::Global;
 
 /// A part of a text, several of which may stand with a mark between them.
@@ -32,9 +32,9 @@ pub trait Part: Sized {
 /// Parts with the next one, after a mark.
 fn with_next<'a, T: Part + Drop>(
     alloc: Global,
-    parts: Parsed<'a, Few<T>>,
+    parts: Parsed<'a, OneOrMore<T>>,
     mark: u8,
-) -> Result<Parsed<'a, Few<T>>, Stop>
+) -> Result<Parsed<'a, OneOrMore<T>>, Stop>
     ensures shorter { IfOk result (λ r. length r.rest < length parts.entry.rest) }
     ensures gives { Gives (seen_read (seen_few T.view)) result
         (read_put (read_after mark T.reader) appended (seen_few T.view parts.entry.value) parts.entry.rest) }
@@ -52,14 +52,14 @@ pub(crate) fn read_following<'a, T: Part + Drop>(
     alloc: Global,
     first: Parsed<'a, T>,
     mark: u8,
-) -> Result<Parsed<'a, Few<T>>, Stop>
+) -> Result<Parsed<'a, OneOrMore<T>>, Stop>
     requires { Shrinks T.reader }
     ensures shorter { IfOk result (λ r. length r.rest ≤ length first.entry.rest) }
     ensures gives { Gives (seen_read (seen_few T.view)) result
         (more_parted mark T.reader (T.view first.entry.value ∷ []) first.entry.rest) }
 {
     let mut parts = Parsed {
-        value: Few::one(first.value),
+        value: OneOrMore::one(first.value),
         rest: first.rest,
     };
     while begins_mark(&parts.rest, mark) {
@@ -73,7 +73,7 @@ pub fn read_parted<'a, T: Part + Drop>(
     alloc: Global,
     tokens: Cursor<'a>,
     mark: u8,
-) -> Result<Parsed<'a, Few<T>>, Stop>
+) -> Result<Parsed<'a, OneOrMore<T>>, Stop>
     requires { Shrinks T.reader }
     ensures shorter { IfOk result (λ r. length r.rest < length tokens.entry) }
     ensures gives { Gives (seen_read (seen_few T.view)) result (read_parted mark T.reader tokens.entry) }
@@ -98,14 +98,14 @@ impl Part for SmallText {
 }
 
 /// A value.
-impl Part for Few<Expr> {
+impl Part for OneOrMore<Expr> {
     ghost Plain = { List SeenExpr };
 
     ghost view = { seen_few seen_expr };
 
     ghost reader = { read_value };
 
-    fn read<'a>(alloc: Global, tokens: Cursor<'a>) -> Result<Parsed<'a, Few<Expr>>, Stop> {
+    fn read<'a>(alloc: Global, tokens: Cursor<'a>) -> Result<Parsed<'a, OneOrMore<Expr>>, Stop> {
         read_value(alloc, tokens)
     }
 }

@@ -14,7 +14,7 @@ use crate::leaves::number_value;
 use crate::parts::{Part, read_following, read_parted};
 use crate::reading::{Parsed, begins_mark, begins_name, read_mark};
 use crate::stop::Stop;
-use icl_lexer::{Cursor, Ends, Expr, Few, Lexeme, Range, Sig, SigWhat, SmallText};
+use icl_lexer::{Cursor, Ends, Expr, Lexeme, OneOrMore, Range, Sig, SigWhat, SmallText};
 use ij_bits::{List, beside};
 use ij_text::Place;
 use std::alloc::Global;
@@ -23,7 +23,10 @@ use std::alloc::Global;
 
 /// Expressions with `,` between them.
 #[tactic(auto, using(crate::proofs::SignalLaws::expr_shrinks), unfolding(crate::specs::Reading::read_value))]
-pub fn read_value<'a>(alloc: Global, tokens: Cursor<'a>) -> Result<Parsed<'a, Few<Expr>>, Stop>
+pub fn read_value<'a>(
+    alloc: Global,
+    tokens: Cursor<'a>,
+) -> Result<Parsed<'a, OneOrMore<Expr>>, Stop>
     ensures shorter { IfOk result (λ r. length r.rest < length tokens.entry) }
     ensures gives { Gives (seen_read (seen_few seen_expr)) result (read_value tokens.entry) }
 {
@@ -146,7 +149,7 @@ fn read_path<'a>(
     alloc: Global,
     first: SmallText,
     tokens: Cursor<'a>,
-) -> Result<Parsed<'a, Few<SmallText>>, Stop>
+) -> Result<Parsed<'a, OneOrMore<SmallText>>, Stop>
     ensures shorter { IfOk result (λ r. length r.rest ≤ length tokens.entry) }
     ensures gives { Gives (seen_read (seen_few bytes_of)) result (read_path_after first.items tokens.entry) }
 {

@@ -11,7 +11,7 @@ use std::alloc::{AllocError, AllocFailed};
 pub enum Stop {
     /// There is no memory.
     Memory,
-    /// So many tokens are left from the first one that doesn't fit, which a limit may bar.
+    /// This many tokens are left from the first one that doesn't fit, which a limit may bar.
     At(usize, Option<Limit>),
 }
 

@@ -1,4 +1,4 @@
--- Frames form a tree: a parent stands before its children, which its module declares, and levels are few.
+-- Frames form a tree: a parent comes before its children, which its module declares, and levels are few.
 use Rattle.std.proofs.Common.{◌≡◌, ◌+◌, ◌<◌, ◌≤◌, ◌++◌, ℕ, zero, suc, List, [], ◌∷◌, length, get_or}
 use Rattle.std.proofs.Common.{slice_get, Contains, Option, Some, None, IfSome, IsSomeAnd, refl, sym, ap}
 use Rattle.std.proofs.Common.{subst, ◌∙◌, arith, append_assoc, append-nil, length-append}
@@ -75,7 +75,7 @@ level_kept front more k lt =
 
 -- ---- one frame more
 
--- an instance of this name stands in its parent's module
+-- an instance of this name is in its parent's module
 abbrev pub Stands : List Frame → Option ℕ → List ℕ → Type 0
 Stands frames parent name =
     IfSome parent (λ p. IsSomeAnd (slice_get frames p) (λ q. Contains (child_names q.block.items) name))
@@ -126,7 +126,7 @@ tree_one front f t b l d = record {
 
 -- ---- all frames
 
--- what is known before the frames of an instance, in so many levels
+-- what is known before the frames of an instance, in this many levels
 pub record IsRoom (levels number : ℕ) (parent : Option ℕ) (name : List ℕ) (front : List Frame) : Type 0 where
   pub long : length front ≡ number
   pub tree : IsTree front

@@ -68,7 +68,7 @@ abbrev pub known_block : List ℕ → Option SeenModule → Answer SeenModule
 known_block name None = Err (NoModule name)
 known_block name (Some block) = Ok block
 
--- the instance that an item wants, in a cell that stands in these modules; parameters are evaluated in the
+-- the instance that an item wants, in a cell that is in these modules; parameters are evaluated in the
 -- parent
 abbrev pub request : List SeenModule → List (List ℕ) → Params → SeenItem → SeenWhat → Answer (List Request)
 request blocks above ps item (AChild module' binds) = do
@@ -97,7 +97,7 @@ pub record Added : Type 0 where
   pub wanted : List Request
   pub counts : Counts
 
--- an item after others, in a cell that stands in these modules
+-- an item after others, in a cell that is in these modules
 unfoldable pub look_at : List SeenModule → List (List ℕ) → Params
     → List SeenItem → Counts → SeenItem → Answer Added
 look_at blocks above ps before c item = do
@@ -144,7 +144,7 @@ pub record Entered : Type 0 where
   pub requests : List Request
   pub counts : Counts
 
--- one cell, which stands in these modules, its own among them
+-- one cell, which is in these modules, its own among them
 unfoldable pub enter_one : List SeenModule → List (List ℕ) → Option ℕ → Counts → Request → Answer Entered
 enter_one blocks above parent c r = do
   ps ← parameters r.given r.block
@@ -162,7 +162,7 @@ enter_one blocks above parent c r = do
     counts = counts;
   })
 
--- a cell and all cells below it, in so many levels
+-- a cell and all cells below it, in this many levels
 unfoldable pub enter : ℕ → List SeenModule → List (List ℕ) → Option ℕ → Progress → Request → Answer Progress
 enter zero blocks above parent s r = Err (Limit Hierarchy 64)
 enter (suc levels) blocks above parent s r = do

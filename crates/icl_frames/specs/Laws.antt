@@ -19,7 +19,7 @@ use Rattle.icl_frames.specs.Preorder.{children_of}
 abbrev pub parents_of : List Frame → List (Option ℕ)
 parents_of frames = map (λ f. f.parent) frames
 
--- a parent stands before its child; cell 0 alone, the top, has none
+-- a parent comes before its child; cell 0 alone, the top, has none
 abbrev pub IsBelow : ℕ → Option ℕ → Type 0
 IsBelow number None = number ≡ 0
 IsBelow number (Some parent) = parent < number

@@ -44,7 +44,7 @@ AreOfChildren blocks Is number parent params (d ∷ ds) frames =
     × AreOfChild blocks Is number parent params d xs
     × AreOfChildren blocks Is (number + length xs) parent params ds ys
 
--- the frames of an instance, in so many levels: its own, and those of its children after it
+-- the frames of an instance, in this many levels: its own, and those of its children after it
 abbrev pub AreOfInstance : List SeenModule → ℕ → OfInstance
 AreOfInstance blocks zero number parent name block given frames = ⊥
 AreOfInstance blocks (suc levels) number parent name block given [] = ⊥

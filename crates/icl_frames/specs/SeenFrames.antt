@@ -25,7 +25,7 @@ abbrev pub seen_wanted : Option RequestAt → List Request
 seen_wanted None = []
 seen_wanted (Some r) = seen_request r ∷ []
 
--- the names of the modules that a cell stands in
+-- the names of the modules that a cell is in
 abbrev pub names_of : List (Bor Module) → List (List ℕ)
 names_of above = map (λ block. block.now.name.items) above
 
@@ -87,7 +87,7 @@ pub record Stepped : Type 0 where
 abbrev pub seen_stepped : SteppedAt → Stepped
 seen_stepped w = record { progress = seen_progress w.progress; requests = map seen_request w.requests.items }
 
--- what `enter` does before it goes below a cell, which stands in these modules, its own among them
+-- what `enter` does before it goes below a cell, which is in these modules, its own among them
 unfoldable pub with_cell : List SeenModule → List (List ℕ) → Option ℕ → Progress → Request → Answer Stepped
 with_cell blocks above parent s r = do
   room ← refuse_if (nat_le 8192 (length s.frames)) (Limit Cells 8192)

@@ -26,7 +26,7 @@ use std::alloc::Global;
 pub struct Frame<'a> {
     /// The instance's name; the top's is empty.
     pub name: &'a [u8],
-    /// The number of the cell that it stands in, counted from 0; none for the top.
+    /// The number of the cell that it is in, counted from 0; none for the top.
     pub parent: Option<u32>,
     /// Its module.
     pub block: &'a Module,
@@ -140,7 +140,7 @@ fn finished<'a>(
     }
 }
 
-/// The cell of an instance, which stands in these modules, its own among them.
+/// The cell of an instance, which is in these modules, its own among them.
 #[tactic(auto, unfolding(crate::specs::FirstPass::enter_one))]
 fn enter_one<'a>(
     alloc: Global,
@@ -238,7 +238,7 @@ fn with_entered<'a>(
     }
 }
 
-/// The number of the next cell, and the cell, which stands in these modules, its own among them.
+/// The number of the next cell, and the cell, which is in these modules, its own among them.
 fn entered_next<'a>(
     alloc: Global,
     modules: &'a [Module],
@@ -258,7 +258,7 @@ fn entered_next<'a>(
     Ok((cell, entered))
 }
 
-/// The cells with that of an instance, which stands in these modules, its own among them.
+/// The cells with that of an instance, which is in these modules, its own among them.
 #[tactic(auto, unfolding(crate::specs::SeenFrames::with_cell))]
 fn with_cell<'a>(
     alloc: Global,
@@ -319,7 +319,7 @@ fn with_module<'a>(
     }
 }
 
-/// The cells with that of an instance and all below it, in so many levels.
+/// The cells with that of an instance and all below it, in this many levels.
 fn enter<'a>(
     alloc: Global,
     modules: &'a [Module],
@@ -393,7 +393,7 @@ fn distinct_modules(alloc: Global, modules: &[Module]) -> Result<(), ElabFault>
 ///
 /// The first fault on the way is the answer. Two modules of one name are `DoubleName` at the second word
 /// `Module`; a top that is no module is `NoModule`. Then each cell, before those in it: `Limit` of
-/// `Hierarchy` where it stands inside 64 others below the top, or of `Cells` where 8192 cells stand before
+/// `Hierarchy` where it is inside 64 others below the top, or of `Cells` where 8192 cells come before
 /// it; its parameters (what `evaluate` of `icl_declarations` tells); its items in the order of the text
 /// (`DoubleName` of a name in the module, the faults of its range, `NoModule` of an instance, `InstanceLoop`
 /// where a module would stand in itself, `NoName` and `DoubleName` of a parameter that is bound, and `Limit`

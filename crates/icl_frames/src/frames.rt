@@ -46,7 +46,7 @@ pub struct Passed<'a> {
     pub counts: Counts,
 }
 
-/// Whether a module is one of those that a cell stands in.
+/// Whether a module is one of those that a cell is in.
 fn is_above(above: &[&Module], name: &[u8]) -> bool
     ensures { result ≡ list_any (bytes_eq name.now) (names_of above.now) }
 {

@@ -9,7 +9,7 @@ pub fn frames_are_preorder()
     ensures { FramesArePreorder }
 {}
 
-/// The cells form a tree: there is a top, and every other cell stands after its parent, whose module declares
+/// The cells form a tree: there is a top, and every other cell comes after its parent, whose module declares
 /// it as an instance of that name, with at most 64 instances inside one another below the top. No two
 /// instances of one parent have one name.
 pub fn frames_are_tree()

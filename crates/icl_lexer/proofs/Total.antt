@@ -1,4 +1,4 @@
--- Each text is cut or has a fault, and its tokens stand in it.
+-- Each text is cut or has a fault, and its tokens are in it.
 use Rattle.std.proofs.Common.{◌≡◌, ℕ, zero, suc, ◌+◌, ◌-◌, ◌≤◌, ◌⊎◌, inl, inr, List, [], ◌∷◌, ◌++◌, length}
 use Rattle.std.proofs.Common.{take, drop, Option, Some, None, refl, sym, ap, subst, ◌∙◌, arith, append_assoc}
 use Rattle.std.proofs.Common.{length-drop, length-append}
@@ -70,7 +70,7 @@ cut_from (suc n) text tokens start at c le = by_rest (drop start text) refl
 pub cut_or_fault : (text : List ℕ) → Outcome text
 cut_or_fault text = cut_from (length text) text [] 0 first_place (nothing_cut text) (omega arith)
 
--- ---- tokens stand in their text
+-- ---- tokens are in their text
 
 abbrev some_kind : PieceKind → Option PieceKind
 some_kind k = Some k

@@ -86,7 +86,7 @@ fault_of [] at = BadByte at
 fault_of (b ∷ bs) at =
     cond (b == 34) (OpenText at) (cond (opens_block (b ∷ bs)) (OpenComment at) (BadByte at))
 
--- the text is cut up to a rest that begins with no piece, where this fault stands
+-- the text is cut up to a rest that begins with no piece, where this fault is
 pub record HasFault (text : List ℕ) (fault : LexFault) : Type 0 where
   pub pieces : List Piece
   pub rest : List ℕ

@@ -64,7 +64,7 @@ abbrev pub with_count : ℕ → Option SeenExpr → Option Counted
 with_count used None = None
 with_count used (Some f) = Some (record { formula = f; used = used; lone = false })
 
--- a number or a text; a sized number only where nothing stands before it in its innermost expression
+-- a number or a text; a sized number only where nothing comes before it in its innermost expression
 abbrev pub leaf_of : Bool → ℕ → TokenKind → Place → List ℕ → Option Counted
 leaf_of alone used Decimal at text = with_count used (as_decimal (decimal_of text))
 leaf_of alone used Param at text = with_count used (Some (AParam at (drop 1 text)))
@@ -125,7 +125,7 @@ operand part sign a = do
 abbrev pub chain : (ℕ → Of Counted) → (ℕ → Of Counted) → (SeenToken → Option Signed) → ℕ → Of Counted
 chain first part sign used = first used >>= λ a. repeat (operand part sign) with_operand a
 
--- what stands in parentheses is no sized number
+-- what is in parentheses is no sized number
 abbrev pub in_parentheses : (ℕ → Of Counted) → ℕ → Of Counted
 in_parentheses whole used = do
   open' ← mark 40
@@ -259,7 +259,7 @@ is_prop ResetValue (AResetValue v) = true
 is_prop AccessTogether ATogether = true
 is_prop w p = false
 
--- whether a property of this kind stands in the body already; attributes aren't kept
+-- whether a property of this kind is in the body already; attributes aren't kept
 abbrev pub stands : PropKeyword → List SeenProp → Bool
 stands w [] = false
 stands w (p ∷ ps) = cond (is_prop w p) true (stands w ps)
@@ -299,7 +299,7 @@ sources Control = sigs
 sources Register = sigs
 sources Alias = sigs
 
--- what stands after the word of a property; an attribute isn't kept
+-- what comes after the word of a property; an attribute isn't kept
 unfoldable pub prop_after : BodyKind → PropKeyword → Of (Option SeenProp)
 prop_after owner Source = sources owner >>= λ s. give (Some (ASource s))
 prop_after owner LaunchEdge = name >>= λ n. give (Some (ALaunchEdge n))

@@ -2,8 +2,8 @@
 use Rattle.std.specs.Prelude.{ℕ, ◌≤◌, List, [], ◌∷◌, take}
 use Rattle.icl_lexer.specs.declared.small_text.Held.{Held}
 use Rattle.icl_lexer.specs.declared.small_text.Held.TheVariants.{Near, Far}
-use Rattle.icl_lexer.specs.declared.few.Values.{Values}
-use Rattle.icl_lexer.specs.declared.few.Values.TheVariants.{One, More}
+use Rattle.icl_lexer.specs.declared.one_or_more.Values.{Values}
+use Rattle.icl_lexer.specs.declared.one_or_more.Values.TheVariants.{One, More}
 
 -- the values of a list, or the bytes of a text
 pub record Items (T : Type 0) : Type 0 where

@@ -27,7 +27,7 @@ abbrev pub FaultsAreOne : Type 0
 FaultsAreOne = (text : List ℕ) (fault other : LexFault)
     → HasFault text fault → HasFault text other → fault ≡ other
 
--- the tokens stand in the text one after the other from a byte on, each with its place, and the bytes of each
+-- the tokens are in the text one after the other from a byte on, each with its place, and the bytes of each
 -- are a piece of its kind
 abbrev pub AreInText : List ℕ → ℕ → List Token → Type 0
 AreInText text from [] = from ≤ length text

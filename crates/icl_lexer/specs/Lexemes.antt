@@ -15,7 +15,7 @@ tokens_at_hand None at text after = []
 tokens_at_hand (Some kind) at text after =
     record { kind = kind; at = at; text = text } ∷ tokens_in after (place_after at text)
 
--- the places of so many bytes from a place on, and the one after them, are below 2^32
+-- the places of this many bytes from a place on, and the one after them, are below 2^32
 abbrev pub HasPlaces : Place → ℕ → Type 0
 HasPlaces at n = (1 ≤ at.col) × (at.line + at.col + n < 2 ^ 32)
 

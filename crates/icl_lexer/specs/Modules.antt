@@ -261,7 +261,7 @@ item_begun at (Some w) = Some (record { at = at; word = w })
 abbrev pub item_begin_at : SeenToken → Option ItemBegin
 item_begin_at t = item_begun t.at (item_word_at t)
 
--- what stands after an item's word and name
+-- what comes after an item's word and name
 abbrev pub meaning_after : ItemKeyword → Of SeenWhat
 meaning_after (OfPort kind) = port kind
 meaning_after OfRegister = register

@@ -88,7 +88,7 @@ tokens_of_front next text at (Some found) =
     seen_piece found.kind at (take found.len text)
     ++ next (drop found.len text) (place_after at (take found.len text))
 
--- the tokens of so many pieces at most, at the front of a text that stands at a place
+-- the tokens of this many pieces at most, at the front of a text that is at a place
 unfoldable pub tokens_within : ℕ → List ℕ → Place → List SeenToken
 tokens_within zero text at = []
 tokens_within (suc n) text at = tokens_of_front (tokens_within n) text at (front text)

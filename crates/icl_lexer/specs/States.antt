@@ -1,4 +1,4 @@
--- Where the reading of a piece stands, and what the bytes up to the end of the piece make of it.
+-- Where the reading of a piece is, and what the bytes up to the end of the piece make of it.
 use Rattle.std.specs.Prelude.{ℕ, ◌==◌, true, false, cond, List, Option, None}
 use Rattle.ij_text.specs.Words.{in_name}
 use Rattle.icl_lexer.specs.declared.token.TokenKind.TheVariants.{Word as OfWord, Sized, Mark}

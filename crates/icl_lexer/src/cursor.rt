@@ -40,7 +40,7 @@ impl<'a> Model for Cursor<'a> {
         × HasPlaces c.at (length c.text.now + length c.after.now) };
 }
 
-/// The tokens of a text that stands at a place, of which there are so many.
+/// The tokens of a text that is at a place, of which there are this many.
 pub(crate) fn cursor_at<'a>(text: &'a [u8], at: Place, left: usize) -> Cursor<'a>
     requires places { HasPlaces at (length text.now) }
     requires counted { left ≡ length (tokens_in text.now at) }

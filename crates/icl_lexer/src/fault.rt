@@ -6,8 +6,8 @@ use ij_text::Place;
 pub enum LexFault {
     /// The byte at this place begins no token and no gap.
     BadByte { at: Place },
-    /// The comment whose `/*` stands at this place has no end.
+    /// The comment whose `/*` is at this place has no end.
     OpenComment { at: Place },
-    /// The quoted text whose first `"` stands at this place has no end.
+    /// The quoted text whose first `"` is at this place has no end.
     OpenText { at: Place },
 }

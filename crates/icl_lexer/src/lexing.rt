@@ -60,7 +60,7 @@ fn count(src: &[u8]) -> Result<usize, LexFault>
 ///
 /// The first fault of the text is answered: `BadByte` where a byte begins no token and no gap, `OpenComment`
 /// where a comment that begins with `/*` has no end, and `OpenText` where quoted text has none. Each has the
-/// place where the byte stands, or the comment or the text begins. Takes no memory: the text is gone through
+/// place where the byte is, or the comment or the text begins. Takes no memory: the text is gone through
 /// once for its faults, and then a token is cut when it is reached.
 ///
 /// The text has at most 134,217,728 bytes; a longer one must not be given. An ICL file may have 16,777,216.

@@ -10,10 +10,10 @@
 mod bytes;
 mod cursor;
 mod fault;
-mod few;
 mod laws;
 mod lexeme;
 mod lexing;
+mod one_or_more;
 mod pieces;
 mod small_text;
 mod state;
@@ -23,10 +23,10 @@ mod words;
 
 pub use cursor::Cursor;
 pub use fault::LexFault;
-pub use few::Few;
 pub use laws::{texts_are_cut_or_at_fault, tokenization_is_unique, tokens_are_in_the_text};
 pub use lexeme::Lexeme;
 pub use lexing::lex;
+pub use one_or_more::OneOrMore;
 pub use small_text::SmallText;
 pub use token::{PieceKind, TokenKind};
 pub use tree::{

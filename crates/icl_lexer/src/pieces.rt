@@ -8,7 +8,7 @@ use crate::state::{State, begin};
 use crate::token::{PieceKind, TokenKind};
 use ij_text::{begins_name, in_name, is_blank};
 
-/// So many bytes at the front of a text are a piece.
+/// This many bytes at the front of a text are a piece.
 #[derive(Clone, Copy)]
 pub(crate) struct Match {
     pub kind: PieceKind,

@@ -11,7 +11,7 @@ const NEAR: usize = 14;
 /// Where the bytes lie.
 #[derive(Drop)]
 enum Held {
-    /// So many of these.
+    /// This many of these.
     Near(u8, [u8; NEAR]),
     /// Here.
     Far(Box<Vec<u8>>),

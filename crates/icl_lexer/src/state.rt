@@ -1,4 +1,4 @@
-// Where the reading of a piece stands.
+// Where the reading of a piece is.
 ghost use Rattle.std.specs.Prelude.{◌≡◌, ◌==◌, ◌∷◌, [], ℕ, List, None, cond, true, false};
 ghost use Rattle.icl_lexer.specs.Pieces.{base, block, kind_of, quoted, slash};
 ghost use Rattle.icl_lexer.specs.States.{kind_of_other, kind_from};

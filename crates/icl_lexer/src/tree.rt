@@ -1,5 +1,5 @@
 // The tree of an ICL text.
-use crate::few::Few;
+use crate::one_or_more::OneOrMore;
 use crate::small_text::SmallText;
 use ij_bits::List;
 use ij_text::Place;
@@ -116,7 +116,7 @@ pub enum PortKind {
     ToIRSelectPort,
 }
 
-/// A property in the body of a port, a register or an alias. Each stands at most once in a body.
+/// A property in the body of a port, a register or an alias. Each is at most once in a body.
 #[derive(Drop)]
 pub enum Prop {
     /// The source of a port: one signal of a `ScanOutPort`, one or more of another port, the leftmost first.
@@ -124,7 +124,7 @@ pub enum Prop {
     /// The clock edge after which a `ScanOutPort` changes.
     LaunchEdge(SmallText),
     /// The numbers of a concatenation, the leftmost first.
-    DefaultLoadValue(Few<Expr>),
+    DefaultLoadValue(OneOrMore<Expr>),
     /// The name of an `Enum`.
     RefEnum(SmallText),
     /// The level at which a control port is active.
@@ -134,7 +134,7 @@ pub enum Prop {
     /// What a scan register captures: signals, the leftmost first.
     CaptureSource(List<Sig>),
     /// The numbers of a concatenation, the leftmost first.
-    ResetValue(Few<Expr>),
+    ResetValue(OneOrMore<Expr>),
     /// The bits of an alias are accessed together.
     AccessTogether,
 }
@@ -144,7 +144,7 @@ pub enum Prop {
 pub struct Range {
     /// The place of the `[`.
     pub at: Place,
-    /// What stands between the brackets.
+    /// What is between the brackets.
     pub ends: Box<Ends>,
 }
 
@@ -162,7 +162,7 @@ pub struct Ends {
 pub struct Sig {
     /// The place of its first token.
     pub at: Place,
-    /// Whether a `~` stands before.
+    /// Whether a `~` comes before.
     pub inverted: bool,
     /// What follows the `~`.
     pub what: SigWhat,
@@ -175,7 +175,7 @@ pub enum SigWhat {
     Value(Expr),
     /// Names with dots between them, one or more, and a range.
     Named {
-        path: Few<SmallText>,
+        path: OneOrMore<SmallText>,
         range: Option<Range>,
     },
 }
@@ -184,7 +184,7 @@ pub enum SigWhat {
 #[derive(Drop)]
 pub struct MuxRow {
     /// The values, one or more, with `|` between them.
-    pub values: Few<Few<Expr>>,
+    pub values: OneOrMore<OneOrMore<Expr>>,
     /// What the multiplexer passes on at these values.
     pub source: Sig,
 }
@@ -218,7 +218,7 @@ pub struct EnumWord {
     /// The word.
     pub name: SmallText,
     /// What it stands for.
-    pub value: Few<Expr>,
+    pub value: OneOrMore<Expr>,
 }
 
 /// An instruction of an `AccessLink`: its name, and the instance and the scan interface that it selects.

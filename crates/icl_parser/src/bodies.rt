@@ -41,7 +41,7 @@ fn is_prop(word: PropKeyword, prop: &Prop) -> bool
     }
 }
 
-/// Whether a property with this word stands among some others.
+/// Whether a property with this word is among some others.
 fn stands(word: PropKeyword, props: &[Prop]) -> bool
     ensures { result ≡ stands word (map seen_prop props.now) }
 {
@@ -175,7 +175,7 @@ fn some<'a>(prop: Prop, rest: Cursor<'a>) -> Parsed<'a, Option<Prop>>
     }
 }
 
-/// What stands after the word of a property. An attribute isn't kept.
+/// What comes after the word of a property. An attribute isn't kept.
 #[tactic(auto, unfolding(crate::specs::Reading::read_prop_after))]
 fn read_prop_after<'a>(
     alloc: Global,

@@ -1,4 +1,4 @@
-// What stands after others of its kind.
+// What comes after others of its kind.
 ghost use Rattle.std.specs.Prelude.{◌<◌, ◌≤◌, IfOk, length};
 ghost use Rattle.ij_bits.specs.Room.{seen_list};
 ghost use Rattle.ij_text.specs.Symbol.{appended};
@@ -10,7 +10,7 @@ use icl_lexer::Cursor;
 use ij_bits::{List, beside};
 use std::alloc::Global;
 
-/// What stands after others of its kind, without a mark between them.
+/// What comes after others of its kind, without a mark between them.
 pub(crate) trait Entry: Sized {
     /// The entry without where it lies in memory.
     ghost Plain: { Type 0 };

@@ -280,7 +280,7 @@ fn read_bound_attribute<'a>(alloc: Global, tokens: Cursor<'a>) -> Result<Parsed<
     })
 }
 
-/// What stands after the word of a binding.
+/// What comes after the word of a binding.
 fn read_bind_after<'a>(
     alloc: Global,
     at: Place,

@@ -80,7 +80,7 @@ fn read_member_word<'a>(tokens: Cursor<'a>) -> Result<Parsed<'a, MemberKeyword>,
     }
 }
 
-/// What stands after the word of a member. An attribute isn't kept.
+/// What comes after the word of a member. An attribute isn't kept.
 fn read_member_after<'a>(
     alloc: Global,
     word: MemberKeyword,

@@ -44,7 +44,7 @@ fn read_item_begin<'a>(tokens: Cursor<'a>) -> Result<Parsed<'a, ItemBegin>, Stop
     }
 }
 
-/// What stands after the word and the name of an item.
+/// What comes after the word and the name of an item.
 #[tactic(auto, unfolding(crate::specs::Reading::read_meaning_after))]
 fn read_meaning_after<'a>(
     alloc: Global,

@@ -56,7 +56,7 @@ fn after_first<'a>(tokens: &Cursor<'a>) -> Cursor<'a>
     }
 }
 
-/// The tokens from where so many are left.
+/// The tokens from where this many are left.
 fn rest_of<'a>(tokens: Cursor<'a>, left: usize) -> Cursor<'a>
     ensures { result ≡ drop (length tokens.entry - left) tokens.entry }
 {

@@ -180,7 +180,7 @@ p_prop_word : (owner : BodyKind) (qs : List SeenProp) (w : PropKeyword) → is_f
 p_prop_word owner qs w free = p_token (word (prop_word w)) w (λ at. w) (word_spelled w)
     (λ at. ap (free_word owner qs) (named_again w) ∙ ap (λ b. cond b (Some w) None) free) (λ at. refl)
 
--- ---- what stands after them
+-- ---- what comes after them
 
 pub record After (owner : BodyKind) (w : PropKeyword) (p : SeenProp) : Type 0 where
   pub middle : List Spelling

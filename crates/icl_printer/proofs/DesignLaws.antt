@@ -122,7 +122,7 @@ p_item_begin b = p_token (word (item_word b.word)) b (λ at. record { at = at; w
 
 -- ---- items
 
--- what stands after the word and the name of an item
+-- what comes after the word and the name of an item
 record Meant (w : ItemKeyword) (m : SeenWhat) : Type 0 where
   middle : List Spelling
   tokens_are : (n : List ℕ) → item_tokens n m ≡ word (item_word w) ∷ word n ∷ middle

@@ -33,7 +33,7 @@ sum_up : (d used : ℕ) (x : List Spelling) (c : Counted) → Printed (term d tr
     → Printed (sum_of d used) placeless_counted x c
 sum_up d used x c p = p_up (term d true) (term d false) sum_sign used p
 
--- what stands alone binds most tightly
+-- what is alone binds most tightly
 from_factor : (f : SeenExpr) → is_lone f ≡ false
     → ((d : ℕ) (alone : Bool) (used : ℕ) → inner f ≤ d → used + ops f ≤ 256
     → Printed (factor d alone used) placeless_counted (formula_tokens f) (counted f (used + ops f) false))

@@ -58,7 +58,7 @@ p_bind_begin : (b : BindBegin) → Printed (one bind_begin_at) (λ z. z.word) (w
 p_bind_begin b = p_token (word (bind_word b.word)) b (λ at. record { at = at; word = b.word })
     (bind_spelled b.word) (λ at. ap (begun_by at) (bind_again b.word)) (λ at. refl)
 
--- what stands after the word of a binding: with any place the same
+-- what comes after the word of a binding: with any place the same
 record Bound (w : BindKeyword) (b : SeenBind) : Type 0 where
   middle : List Spelling
   tokens_are : binding_tokens b ≡ word (bind_word w) ∷ (middle ++ (mark 59 ∷ []))

@@ -1,4 +1,4 @@
--- What stands after the word and the name of an item, printed and derived again.
+-- What comes after the word and the name of an item, printed and derived again.
 use Rattle.std.proofs.Common.{◌≡◌, Bool, List, [], ◌∷◌, ◌++◌, map, Option, None, refl, sym, ap, subst}
 use Rattle.std.specs.Prelude.{codes}
 use Rattle.std.specs.Option.{option_map}

@@ -18,7 +18,7 @@ use Rattle.icl_lexer.specs.Cutting.{IsPiece, opens_comment}
 use Rattle.icl_printer.specs.Layout.{blank_of, ends_line}
 use Rattle.icl_printer.proofs.Bytes.{is_of, run_never, block_never}
 
--- a blank that stands after a token
+-- a blank that comes after a token
 pub record IsAfter (b : ℕ) : Type 0 where
   pub gap : (bs : List ℕ) → kind_of (b ∷ bs) ≡ ends Gap bs
   pub in_a_word : in_name b ≡ false

@@ -58,7 +58,7 @@ binding_of Times = 2
 binding_of Over = 2
 binding_of Rest = 2
 
--- how tightly a formula holds together. A sized number stands alone in its expression, so as an operand it is
+-- how tightly a formula holds together. A sized number is alone in its expression, so as an operand it is
 -- the loosest
 abbrev pub binding : SeenExpr → ℕ
 binding (ADecimal n) = 3

@@ -51,7 +51,7 @@ a_product_in_a_sum : layout (formula_tokens (AnOp no_place Plus a (AnOp no_place
 unfolding layout
 a_product_in_a_sum = refl
 
--- a sized number stands alone in its expression
+-- a sized number is alone in its expression
 a_sized_operand : layout (formula_tokens (AnOp no_place Plus (ASized (codes "4'b1")) a))
     ≡ codes "( 4'b1 ) + $a "
 unfolding layout

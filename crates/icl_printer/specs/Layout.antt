@@ -3,7 +3,7 @@ use Rattle.std.specs.Prelude.{ℕ, ◌==◌, ◌||◌, Bool, cond, List, [], ◌
 use Rattle.icl_lexer.specs.declared.token.TokenKind.{TokenKind}
 use Rattle.icl_lexer.specs.declared.token.TokenKind.TheVariants.{Word, Mark}
 
--- a token as it is spelled, wherever it stands
+-- a token as it is spelled, wherever it is
 pub record Spelling : Type 0 where
   pub kind : TokenKind
   pub text : List ℕ

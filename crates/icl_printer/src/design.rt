@@ -38,7 +38,7 @@ impl Put for Module {
 }
 
 /// Writes the text of a design (ICL, IEEE 1687-2014): its tokens in order, with one space between two of
-/// them, but with a line end in place of the space after `;`, `{` and `}`. An operand stands in parentheses
+/// them, but with a line end in place of the space after `;`, `{` and `}`. An operand is in parentheses
 /// only where the tree couldn't otherwise have it, as the right one of `a - (b - c)`, and a sized number that
 /// is an operand. A body without properties, and an instance without bindings, is written as `;`. A design
 /// without modules has no text.

@@ -8,7 +8,7 @@ ghost use Rattle.icl_lexer.specs.Views.{seen_expr};
 
 use crate::put::{Put, put_if_there_after, put_mark_if, put_separated};
 use crate::token::{Piece, put_tokens};
-use icl_lexer::{Expr, Few, Range, Sign};
+use icl_lexer::{Expr, OneOrMore, Range, Sign};
 use ij_io::{Sink, StoreFault};
 
 /// The mark of an operator.
@@ -34,7 +34,7 @@ fn precedence(sign: Sign) -> u8
     }
 }
 
-/// How tightly an expression holds together as an operand. A sized number, which stands alone in its
+/// How tightly an expression holds together as an operand. A sized number, which is alone in its
 /// expression, is the loosest.
 fn tightness(expr: &Expr) -> u8
     ensures { result ≡ binding (seen_expr expr.now) }
@@ -46,7 +46,7 @@ fn tightness(expr: &Expr) -> u8
     }
 }
 
-/// Whether an operand stands in parentheses, where it has to bind at least so tightly.
+/// Whether an operand is in parentheses, where it has to bind at least so tightly.
 fn needs_parentheses(operand: &Expr, least: u8) -> bool
     ensures { result ≡ nat_lt (binding (seen_expr operand.now)) least }
 {
@@ -100,7 +100,7 @@ impl Put for Expr {
 }
 
 /// The numbers of a concatenation.
-impl Put for Few<Expr> {
+impl Put for OneOrMore<Expr> {
     ghost use Rattle.std.specs.Prelude.{List};
     ghost use Rattle.icl_lexer.specs.Values.{SeenExpr};
     ghost use Rattle.icl_lexer.specs.Views.{seen_expr, seen_few};

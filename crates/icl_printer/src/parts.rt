@@ -11,12 +11,12 @@ ghost use Rattle.icl_lexer.specs.Views.{seen_expr, seen_range, seen_sig};
 
 use crate::put::{Put, put_if_there_after, put_separated};
 use crate::token::{Piece, put_tokens};
-use icl_lexer::{Bind, EnumWord, Expr, Few, LinkInstr, MuxRow, Range, Sig, SmallText};
+use icl_lexer::{Bind, EnumWord, Expr, LinkInstr, MuxRow, OneOrMore, Range, Sig, SmallText};
 use ij_bits::List;
 use ij_io::{Sink, StoreFault};
 
 /// The values that select a row.
-impl Put for Few<Few<Expr>> {
+impl Put for OneOrMore<OneOrMore<Expr>> {
     ghost use Rattle.std.specs.Prelude.{List};
     ghost use Rattle.icl_lexer.specs.Values.{SeenExpr};
     ghost use Rattle.icl_lexer.specs.Views.{seen_expr, seen_few};

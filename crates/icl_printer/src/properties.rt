@@ -9,7 +9,7 @@ use crate::token::{Piece, put_tokens};
 use icl_lexer::Prop;
 use ij_io::{Sink, StoreFault};
 
-/// Writes a property's word, what stands after it, and `;`.
+/// Writes a property's word, what comes after it, and `;`.
 fn put_property<T: Put, K: Sink>(name: &[u8], part: &T, k: &mut K) -> Result<(), StoreFault>
     ensures whole { OnOk result (Adds (K.taken k.old) (K.taken k.new)
         (layout (word name.now ∷ (T.tokens (T.view part.now) ++ (mark 59 ∷ []))))) }

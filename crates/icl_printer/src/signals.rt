@@ -1,7 +1,7 @@
 // Names and signals.
 use crate::put::{Put, put_mark_if, put_separated};
 use crate::token::{Piece, put_tokens};
-use icl_lexer::{Few, Sig, SigWhat, SmallText};
+use icl_lexer::{OneOrMore, Sig, SigWhat, SmallText};
 use ij_bits::List;
 use ij_io::{Sink, StoreFault};
 
@@ -24,7 +24,7 @@ impl Put for SmallText {
 }
 
 /// A path.
-impl Put for Few<SmallText> {
+impl Put for OneOrMore<SmallText> {
     ghost use Rattle.std.specs.Prelude.{ℕ, List};
     ghost use Rattle.icl_lexer.specs.Views.{bytes_of, seen_few};
     ghost use Rattle.icl_printer.specs.Canonical.{name_tokens, separated};

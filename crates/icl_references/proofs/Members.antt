@@ -24,7 +24,7 @@ next_member n (suc k) x xs (b ∷ bs) = next_member n k x xs bs
 
 -- ---- by name
 
--- what is found stands at its number, counted from the first one
+-- what is found is at its number, counted from the first one
 pub record IsFound (o : Option Member) (ms : List Member) (n k : ℕ) : Type 0 where
   pub place : ℕ
   pub number : k ≡ n + place

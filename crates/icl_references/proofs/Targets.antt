@@ -24,7 +24,7 @@ use Rattle.icl_references.specs.Signals.{bit_of, bits_of}
 use Rattle.icl_frames.proofs.Answering.{both, ok_is}
 use Rattle.std.proofs.lemmas.Option.{same_Some}
 
--- ---- what is found in a list of numbered items stands at its number
+-- ---- what is found in a list of numbered items is at its number
 
 pub record IsAt {A : Type 0} (xs : List A) (s n : ℕ) (x : A) : Type 0 where
   pub place : ℕ
@@ -171,7 +171,7 @@ between b i h = let p = h.0 in let q = h.1 in omega (arith, p, q)
 between' : (b : Bounds) (i : ℕ) → (b.left ≤ i) × (i ≤ b.right) → position_of b i < width b
 between' b i h = let p = h.0 in let q = h.1 in omega (arith, p, q)
 
--- an index stands at a position below the width
+-- an index is at a position below the width
 index_within : (b : Bounds) (i : ℕ) → has_index b i ≡ true → position_of b i < width b
 index_within b i h =
     elim (or_cases (nat_le b.right i && nat_le i b.left) (nat_le b.left i && nat_le i b.right) h) [

@@ -26,7 +26,7 @@ frames_in cells = map (λ c. seen_frame c.frame.now) cells
 abbrev pub frames_of : Tables → List Frame
 frames_of tables = frames_in tables.cells.items
 
--- what stands past the last cell
+-- what is past the last cell
 abbrev pub no_frame : Frame
 no_frame = record {
   name = [];

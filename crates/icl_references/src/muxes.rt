@@ -14,7 +14,7 @@ use crate::overlaps::{Row, some_meet};
 use crate::signals::{scan_signal, select_signals};
 use crate::tables::Tables;
 use icl_declarations::{ElabFault, value_in};
-use icl_lexer::{Expr, Few, MuxRow, Sig};
+use icl_lexer::{Expr, MuxRow, OneOrMore, Sig};
 use ij_bits::{List, Tern};
 use ij_text::Place;
 use std::alloc::Global;
@@ -26,7 +26,7 @@ fn row_values(
     here: u32,
     at: Place,
     width: u32,
-    values: &[Few<Expr>],
+    values: &[OneOrMore<Expr>],
 ) -> Result<List<Tern>, ElabFault>
     requires { IsHere tables.now here }
     ensures { Gives (λ all. map tern_bits all.items) result (each

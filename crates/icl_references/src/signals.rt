@@ -245,7 +245,7 @@ fn as_wide(holder: Place, width: u32, refs: List<Ref>) -> Result<List<Ref>, Elab
     }
 }
 
-/// The bits of data signals where so many are wanted (`CaptureSource`, the `Source` of a `DataOutPort`, the
+/// The bits of data signals where this many are wanted (`CaptureSource`, the `Source` of a `DataOutPort`, the
 /// binding of a `DataInPort`), position 0 first. A number alone may be narrower. `WidthDiffers` at the
 /// holder.
 #[tactic(auto, unfolding(crate::specs::Signals::data_signals))]

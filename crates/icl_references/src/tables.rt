@@ -118,7 +118,7 @@ fn cell_tables<'a>(
     Ok(cells)
 }
 
-/// So many tables without names.
+/// This many tables without names.
 fn no_children(alloc: Global, count: usize) -> Result<Vec<Scope>, OutOfMemory>
     ensures long { IfOk result (λ all. length all.items ≡ count) }
     ensures none { IfOk result (λ all. AreEmpty all.items) }
@@ -148,7 +148,7 @@ fn add_child(
     Ok(())
 }
 
-/// Adds a cell to the children of the one that it stands in.
+/// Adds a cell to the children of the one that it is in.
 fn add_frame(
     alloc: Global,
     children: &mut Vec<Scope>,

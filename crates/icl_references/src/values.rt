@@ -55,7 +55,7 @@ fn sized_number(
     }
 }
 
-/// The bits of a number without x that stands at `at`, in the width that is wanted of it.
+/// The bits of a number without x that is at `at`, in the width that is wanted of it.
 pub(crate) fn number_bits(
     alloc: Global,
     holder: Place,

@@ -57,7 +57,7 @@ pub apart_in_map : {A B : Type 0} (f : A → B) (R : B → B → Type 0) (xs : L
 apart_in_map f R [] h = tt
 apart_in_map f R (x ∷ xs) h = (all_in_map f (R (f x)) xs h.0, apart_in_map f R xs h.1)
 
--- ---- lists in which nothing stands twice
+-- ---- lists in which nothing is twice
 
 none_equal : {B : Type 0} (x : B) (ys : List B) → AllByRecursion (λ y. x ≡ y → ⊥) ys → Contains ys x → ⊥
 none_equal x [] h c = let lt = c.1 in omega (arith, lt)

@@ -1,4 +1,4 @@
--- The parts of a hierarchy among those of their kind: each stands at its number.
+-- The parts of a hierarchy among those of their kind: each is at its number.
 use Rattle.std.proofs.Common.{◌≡◌, ◌+◌, ◌<◌, ◌==◌, ◌&&◌, ◌++◌, ℕ, Bool, true, List, [], ◌∷◌, map, filter}
 use Rattle.std.proofs.Common.{flat_map, Some, refl, sym, ap, subst, ◌∙◌, arith}
 use Rattle.std.specs.Prelude.{slice_get, position, unwrap_or}

@@ -97,12 +97,12 @@ module _ (cells : List CellOf) (entry : Wire) where
 
   -- ---- a trace on its way
 
-  -- after so many moves, none of which was the last one
+  -- after this many moves, none of which was the last one
   pub record IsOnWay (start : Wire) (moves : ℕ) (inverted : Bool) (wire : Wire) : Type 0 where
     pub going : (n : ℕ) → n ≤ moves → follow cells entry n false start ≡ InLoop
     pub rest : (n : ℕ) → follow cells entry (n + moves) false start ≡ follow cells entry n inverted wire
 
-  -- a bit that the trace met, after so many moves at most
+  -- a bit that the trace met, after this many moves at most
   pub record IsMet (start : Wire) (moves : ℕ) (wire : Wire) : Type 0 where
     pub after : ℕ
     pub inverted : Bool
@@ -181,7 +181,7 @@ module _ (cells : List CellOf) (entry : Wire) where
       → (n : ℕ) → follow cells entry n false start ≡ InLoop
   comes_back start k i w met h n = up_to n n (omega arith)
     where
-      -- so many looks less at the bit that it met before
+      -- this many looks less at the bit that it met before
       round : (n : ℕ) → k + 1 < n → ((m : ℕ) → m < n → follow cells entry m false start ≡ InLoop)
           → follow cells entry n false start ≡ InLoop
       round n past fewer =

@@ -1,4 +1,4 @@
--- Ends of traces that were found: each is where the trace of its bit ends that looks at so many bits, or at
+-- Ends of traces that were found: each is where the trace of its bit ends that looks at this many bits, or at
 -- more.
 use Rattle.std.specs.Prelude.{◌≡◌, ◌≤◌, ℕ, Bool, false, List, Option, Some, None, All}
 use Rattle.ij_bits.specs.BitLists.{flip_if}

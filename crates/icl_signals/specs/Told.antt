@@ -38,7 +38,7 @@ IsToldNext cells entry (At wire inverted) = Unit {0}
 abbrev pub seen_entry : PartAt → Entry
 seen_entry e = record { cell = e.cell; part = e.part; what = seen_part e.what.now }
 
--- the part stands at its numbers
+-- the part is at its numbers
 abbrev pub IsPlaced : List CellOf → PartAt → Type 0
 IsPlaced cells e = part_at cells e.cell e.part ≡ Some (seen_part e.what.now)
 

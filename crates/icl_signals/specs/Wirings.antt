@@ -12,7 +12,7 @@ use Rattle.icl_signals.specs.Kinds.{is_of, before, numbers_from}
 abbrev pub cells_of : Wiring → List CellOf
 cells_of g = seen_hier g.hier.now
 
--- the tables are those of the hierarchy, a trace that looks at so many bits comes back to one, and the ends
+-- the tables are those of the hierarchy, a trace that looks at this many bits comes back to one, and the ends
 -- are where traces end
 pub record IsWiring (g : Wiring) : Type 0 where
   pub instruments : g.instruments.items ≡ map is_instrument (cells_of g)

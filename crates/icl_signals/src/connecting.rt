@@ -108,7 +108,7 @@ fn network_of(alloc: Global, hier: &Hier, link: &Name, instr: &Name) -> Result<N
 
 /// The flat network between the two ends of the interface that an instruction of an access link selects (IEEE
 /// 1687-2014, ICL: AccessLink). Each scan source, capture bit, select bit, row, instrument input and thing is
-/// where its signal's trace ends. Registers, multiplexers, instruments and things stand in the order of the
+/// where its signal's trace ends. Registers, multiplexers, instruments and things are in the order of the
 /// cells, and in a cell in the order of the text.
 ///
 /// The first fault on the way is the answer, in this order: `NoLink` where the top has no such link and

@@ -19,7 +19,7 @@ pub(crate) fn bits_copy(alloc: Global, bits: &Tern) -> Result<Tern, OutOfMemory>
     Ok(Tern { value, care })
 }
 
-/// So many bits, all of them open.
+/// This many bits, all of them open.
 fn all_open(alloc: Global, width: u32) -> Result<Tern, OutOfMemory>
     ensures { IfOk result (λ t. tern_bits t ≡ replicate width None) }
 {

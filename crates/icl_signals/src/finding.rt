@@ -14,7 +14,7 @@ use icl_elab::{Cell, Part};
 use ij_bits::OutOfMemory;
 use std::alloc::Global;
 
-/// Where a trace ends that goes on, after so many moves, with a bit whose end is known.
+/// Where a trace ends that goes on, after this many moves, with a bit whose end is known.
 fn after(moves: u64, inverted: bool, found: Found) -> Option<Found>
     ensures looks { IfSome result (λ f. f.looks ≡ moves + found.looks) }
     ensures end { IfSome result (λ f. f.end ≡ turned_end inverted found.end) }

@@ -117,7 +117,7 @@ fn passes(hier: &Hier, side: Side, cell: u32, port: u32) -> bool
     }
 }
 
-/// The one port of this side among some parts of a cell, however often it stands there.
+/// The one port of this side among some parts of a cell, however often it is there.
 fn only_among(hier: &Hier, side: Side, cell: u32, ports: &[u32]) -> Option<u32>
     ensures { result ≡ only
         (filter (λ port. passes (test_of_side side) (part_at (seen_hier hier.now) cell port)) ports.now) }

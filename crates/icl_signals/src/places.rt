@@ -41,7 +41,7 @@ fn wired_bits(part: &Part) -> Result<u32, OutOfMemory>
     }
 }
 
-/// More bits, if so many can be counted.
+/// More bits, if this many can be counted.
 fn added(count: u32, bits: u32) -> Result<u32, OutOfMemory>
     ensures { IfOk result (λ sum. sum ≡ count + bits) }
 {

@@ -35,7 +35,7 @@ fn scan_source(wiring: &Wiring, at: Place, scan: Option<Ref>) -> Result<Point, C
     }
 }
 
-/// So many signals without a source.
+/// This many signals without a source.
 fn absent(alloc: Global, width: u32) -> Result<List<Sig>, OutOfMemory>
     ensures { IfOk result (λ all. all.items ≡ replicate width Absent) }
 {

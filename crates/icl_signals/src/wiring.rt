@@ -23,7 +23,7 @@ pub struct Wiring<'a> {
     pub(crate) instruments: Vec<bool>,
     /// For each cell how many instruments stand before it.
     pub(crate) instrument_numbers: Vec<u32>,
-    /// For each part of each cell how many registers stand before it.
+    /// For each part of each cell how many registers come before it.
     pub(crate) registers: Vec<Vec<u32>>,
     /// The same of multiplexers.
     pub(crate) muxes: Vec<Vec<u32>>,
@@ -41,7 +41,7 @@ pub struct Wiring<'a> {
     pub(crate) ends: Vec<Option<Note>>,
 }
 
-/// More bits, if so many can be counted.
+/// More bits, if this many can be counted.
 fn added(count: u64, bits: u64) -> Result<u64, OutOfMemory>
     ensures { IfOk result (λ sum. sum ≡ count + bits) }
 {
@@ -76,7 +76,7 @@ fn count_bits(cells: &[Cell]) -> Result<u64, OutOfMemory>
 /// The numbers of parts.
 #[derive(Drop)]
 struct PartNumbers {
-    /// For each part of each cell how many registers stand before it.
+    /// For each part of each cell how many registers come before it.
     registers: Vec<Vec<u32>>,
     /// The same of multiplexers.
     muxes: Vec<Vec<u32>>,

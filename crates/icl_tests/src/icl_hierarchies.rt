@@ -163,7 +163,7 @@ fn show_part(shown: &mut Shown, part: &Part) {
     }
 }
 
-/// The cells: each its name, the module after `:`, and the cell that it stands in after `<`.
+/// The cells: each its name, the module after `:`, and the cell that it is in after `<`.
 fn show_cells(shown: &mut Shown, cells: &[Cell]) {
     for cell in cells {
         shown.gap();
@@ -194,7 +194,7 @@ fn hierarchy(alloc: Global, text: &str, top: &str) -> Option<Hier> {
     }
 }
 
-/// What stands before the items of a row: an instrument, a segment, parameters, and the parts of `chip` up to
+/// What comes before the items of a row: an instrument, a segment, parameters, and the parts of `chip` up to
 /// number 5. The items stand in line 2, and the next part has number 6.
 const FRONT: &str =
     "Module Ins { DataInPort d[3:0]; DataOutPort q[3:0]; } Module Seg { ScanInPort SI; ScanOutPort SO { Source S; } ScanRegister S[1:0] { ScanInSource SI; } ScanInterface client { Port SI; Port SO; } } Module Par { Parameter P = 1; LocalParameter L = 2; DataInPort p[$P+$L:0]; } Module chip { ScanInPort SI; DataInPort D[3:0]; ScanRegister R[3:0] { ScanInSource SI; } Instance s Of Seg { InputPort SI = R; } Instance i Of Ins; SelectPort En;";

@@ -123,11 +123,11 @@ fn network_of(alloc: Global, text: &str) -> Shown {
     shown
 }
 
-/// What stands in line 1, before the modules of a row: ports that are passed on, and an instrument.
+/// What is in line 1, before the modules of a row: ports that are passed on, and an instrument.
 const FRONT: &str =
     "Module Wire { ScanInPort SI; ScanOutPort SO { Source SI; } } Module Pass { DataInPort i; DataOutPort o { Source i; } } Module Seg { ScanInPort SI; ScanOutPort SO { Source S; } ScanRegister S { ScanInSource SI; } } Module Ins { DataInPort d; DataOutPort q[1:0]; }";
 
-/// The instance and the link that stand after them.
+/// The instance and the link that come after them.
 const BACK: &str =
     "AccessLink tap Of STD_1149_1_2001 { BSDLEntity chip; IJTAG { ScanInterface { net.client; } } } }";
 

@@ -1,5 +1,5 @@
 //! Tests of the readers of ICL, of what prints it again, and of the calls over scan networks, on networks of
-//! ICL texts that stand in tables.
+//! ICL texts that are in tables.
 #![tactic(auto)]
 
 #[cfg(test)]

@@ -132,7 +132,7 @@ const PLACES: [(&str, &str, &str); 4] = [
         "ScanMux m SelectedBy S1 { 1'b0 : SI; 1'b1 : S2; } ScanMux n SelectedBy S2 { 1'b0 : SI; 1'b1 : S3; } ScanMux o SelectedBy S3 { 1'b0 : SI; 1'b1 : R[0]; } ScanRegister R[3:0] { ScanInSource SI; CaptureSource R; ResetValue 4'b0; } ScanRegister S3 { ScanInSource o; CaptureSource S3; ResetValue 1'b0; } ScanRegister S2 { ScanInSource n; CaptureSource S2; ResetValue 1'b0; } ScanRegister S1 { ScanInSource m; CaptureSource S1; ResetValue 1'b0; }",
         " R 0.1 1.1 2.1; R 0.1 1.1; R 0.1; R; M; M 0.1; M 0.1 1.1;",
     ),
-    // A select bit that stands around its multiplexer, in the row of another one.
+    // A select bit that is around its multiplexer, in the row of another one.
     (
         "S[0]",
         "ScanMux m SelectedBy S[0] { 1'b0 : SI; 1'b1 : T; } ScanMux n SelectedBy S[1], T { 2'b00 : SI; 2'b11 | 2'b10 : A[0]; } ScanRegister A[1:0] { ScanInSource SI; CaptureSource A; ResetValue 2'b0; } ScanRegister T { ScanInSource n; CaptureSource T; ResetValue 1'b0; } ScanRegister S[1:0] { ScanInSource m; CaptureSource S; ResetValue 2'b0; }",

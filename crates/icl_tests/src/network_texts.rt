@@ -77,7 +77,7 @@ fn network_in(alloc: Global, text: &[u8]) -> Result<Net, &'static str>
     }
 }
 
-/// What stands before the parts of the module `Net`, and after them.
+/// What comes before the parts of the module `Net`, and after them.
 const FRONT: &str =
     "Module Ins { DataInPort d; } Module Net { ScanInterface client { Port SI; Port SO; } ScanInPort SI; ScanOutPort SO { Source";
 

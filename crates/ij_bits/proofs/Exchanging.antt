@@ -67,7 +67,7 @@ bits_of-append (suc a) b x =
     ∙ ap (λ n. bits_of a (x / 2) ++ bits_of b n)
     (div-div-eq-div-mul x 2 (2 ^ a) ∙ ap (λ m. x / m) (sym (pow-succ' 2 a))))
 
--- all of the new bits stand before the end
+-- all of the new bits come before the end
 pub within_items : (f n : ℕ) (xs ys v : List Bool) → f + n ≤ length xs → length v ≡ n
     → ys ≡ take f xs ++ (v ++ drop (f + n) xs) → turned (f + n) ys ≡ drop n (turned f xs) ++ v
 within_items f n xs ys v inside len is =

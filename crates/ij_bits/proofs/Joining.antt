@@ -188,7 +188,7 @@ two_below old i here next k there low below =
     ∙ ap (λ w. bit_at w (k % 64) == 1) (get_or-set_other one (i / 64 + 1) (k / 64) next 0 apart)
     ∙ sym (word_bit_is one k (k / 64) (k % 64) at here_low) ∙ one_below old i here k there low below
 
--- what stands after the 64 bits stays
+-- what comes after the 64 bits stays
 pub one_after : (old : List ℕ) (i here k : ℕ) → i + 64 ≤ k
     → word_bit (slice_set old (i / 64) here) k ≡ word_bit old k
 unfolding word_bit
@@ -232,7 +232,7 @@ kept_high old i here next j high low =
     ∙ down (get_or (slice_set old (i / 64) here) (i / 64 + 1) 0) (i % 64) j
     ∙ ap (λ w. bit_at w (i % 64 + j)) (get_or-set_other old (i / 64) (i / 64 + 1) here 0 apart)
 
--- a word's lowest n bits, and on top of them those that stand in a list after these
+-- a word's lowest n bits, and on top of them those that are in a list after these
 pub covered_bit : (words : List ℕ) (at n word rest full k : ℕ)
     → ((j : ℕ) → n + j < 64 → bit_at full (n + j) ≡ bit_at rest j)
     → ((j : ℕ) → j < 64 → at + n + j < 64 * length words → (bit_at rest j == 1) ≡ word_bit words (at + n + j))

@@ -1,4 +1,4 @@
--- Lists in which nothing stands twice.
+-- Lists in which nothing is twice.
 use Rattle.std.specs.Prelude.{List, [], ◌∷◌, Contains}
 
 abbrev pub AreDifferent : {A : Type 0} → List A → Type 0

@@ -31,7 +31,7 @@ pub fn bit_of_number(number: u64, place: u32) -> bool
     (number >> place) & 1 == 1
 }
 
-/// Writes the 16 digits of a number so that the lowest of them stands before `end`, as far as there is room.
+/// Writes the 16 digits of a number so that the lowest of them comes before `end`, as far as there is room.
 pub(crate) fn put_digits(value: u64, to: &mut [u8], end: usize)
     requires { end ≤ length to.old }
     ensures at { (i : ℕ) → i < 16 → i < end

@@ -153,7 +153,7 @@ fn steps_met(rt: &HostRuntime, steps: &[(&str, Act<'_>)]) -> usize {
 
 // ---- tests
 
-/// A begun file is empty, whatever stood in it, and a piece is added after what stands.
+/// A begun file is empty, whatever stood in it, and a piece is added after what is.
 const GROWN: [(&str, Act<'static>); 14] = [
     ("grown", Written(b"a longer text that is there already")),
     ("grown", First(Begin)),
@@ -229,7 +229,7 @@ fn two_shelves_that_write_one_text_leave_it_once(rt: HostRuntime) {
 }
 
 /// Two shelves that write texts of different length to one name: each writes at its own places, and the later
-/// byte stands.
+/// byte is.
 const OWN_PLACES: [(&str, Act<'static>); 9] = [
     ("texts", First(Begin)),
     ("texts", Second(Begin)),

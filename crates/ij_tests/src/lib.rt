@@ -1,4 +1,4 @@
-//! Tests of what all else stands on, on texts that stand in tables: lists of bits, names and numbers; files
+//! Tests of what all else is on, on texts that are in tables: lists of bits, names and numbers; files
 //! and streams, in memory and of the host; the readers of procedures and SVF, and what writes SVF; the TAP
 //! controller and players, clock by clock; the lines of reports; made designs.
 #![tactic(auto)]

@@ -29,7 +29,7 @@ fn show_part(text: &mut SureSink, name: &[u8], part: &Part) {
     );
 }
 
-/// A scan, with the lowest hexadecimal digit of each part that stands in it.
+/// A scan, with the lowest hexadecimal digit of each part that is in it.
 fn show_scan(text: &mut SureSink, name: &[u8], scan: &Scan) {
     show(
         text,

@@ -32,14 +32,14 @@ module _ {K : Type 0} (f : K → List ℕ) where
       ∙ ap (λ n. cond (nat_lt (position_or_len test (map f ks)) n)
       (Some (position_or_len test (map f ks))) None) (sym (map_length ks))
 
-  -- a name that no key has stands at no place
+  -- a name that no key has is at no place
   not_there : (n : List ℕ) (ks : List K) → AllByRecursion (λ k. bytes_eq n (f k) ≡ false) ks → (j : ℕ)
       → j < length (map f ks) → slice_index_or (map f ks) j [] ≡ n → ⊥
   not_there n [] all j lt e = absurd (omega (arith, lt))
   not_there n (k ∷ ks) all zero lt e = true≢false (sym (eq_same n) ∙ ap (bytes_eq n) (sym e) ∙ all.0)
   not_there n (k ∷ ks) all (suc j) lt e = not_there n ks all.1 j (omega (arith, lt)) e
 
-  -- no key stands twice, so no name does
+  -- no key is twice, so no name does
   pub distinct : (ks : List K) → IsDistinct (λ a b. bytes_eq (f a) (f b)) ks → AreDistinct (map f ks)
   unfolding IsDistinct
   distinct [] h i j li lj e = absurd (omega (arith, li))

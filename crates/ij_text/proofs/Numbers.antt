@@ -22,7 +22,7 @@ grows [] n = omega arith
 grows (b ∷ bs) n = let one = next_grows n b in
     let others = grows bs (next_decimal n b) in omega (arith, one, others)
 
--- a text has no fewer bits than what stands after some of its bytes
+-- a text has no fewer bits than what comes after some of its bytes
 pub fewer : (radix : Radix) (text : List ℕ) (k : ℕ)
     → length (text_bits radix (drop k text)) ≤ length (text_bits radix text)
 fewer radix text zero = omega arith

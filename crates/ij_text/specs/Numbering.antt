@@ -15,7 +15,7 @@ number_or_next names name = unwrap_or (number_in names name) (length names)
 abbrev pub with_name : List (List ℕ) → List ℕ → List (List ℕ)
 with_name names name = cond (is_some (number_in names name)) names (names ++ name ∷ [])
 
--- no name stands twice
+-- no name is twice
 abbrev pub AreDistinct : List (List ℕ) → Type 0
 AreDistinct names = (i j : ℕ) → i < length names → j < length names
     → slice_index_or names i [] ≡ slice_index_or names j [] → i ≡ j

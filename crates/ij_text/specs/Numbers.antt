@@ -19,7 +19,7 @@ is_digit Ten b = is_ascii_digit b
 is_digit Two b = b == 48 || (b == 49 || b == 120)
 is_digit Sixteen b = is_ascii_hexdigit b || b == 120
 
--- digits and `_` (95), the last of them a digit; it is told whether a digit stands before
+-- digits and `_` (95), the last of them a digit; it is told whether a digit comes before
 abbrev pub go_on : Radix → Bool → List ℕ → Bool
 go_on radix after_digit [] = after_digit
 go_on radix after_digit (b ∷ bs) =

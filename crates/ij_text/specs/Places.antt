@@ -5,7 +5,7 @@ use Rattle.ij_text.specs.declared.Place.{Place}
 abbrev pub first_place : Place
 first_place = record { line = 1; col = 1 }
 
--- the place of what stands in no text
+-- the place of what is in no text
 abbrev pub no_place : Place
 no_place = record { line = 0; col = 0 }
 

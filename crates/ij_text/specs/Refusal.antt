@@ -13,7 +13,7 @@ abbrev pub CantGoOn : {T W A : Type 0} → Symbol T W A → List T → List T �
 CantGoOn {T} {W} {A} S front [] why = ((a : A) → S.derives front a → ⊥) × (why ≡ None)
 CantGoOn S front (t ∷ rest) why = (S.viable (front ++ t ∷ []) → ⊥) × (Why S (front ++ t ∷ []) why)
 
--- the list is refused with so many tokens left: those before them are viable, and with the next one they
+-- the list is refused with this many tokens left: those before them are viable, and with the next one they
 -- aren't
 abbrev pub Refused : {T W A : Type 0} → Symbol T W A → List T → Stop W → Type 0
 Refused {T} {W} {A} S ts stop = (front : List T) × (rest : List T) × (ts ≡ front ++ rest)

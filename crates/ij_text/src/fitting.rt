@@ -16,7 +16,7 @@ fn is_wide_decimal(n: u128, width: u32) -> bool
     width < 128 && n >> width != 0
 }
 
-/// A decimal in a width, without what stands above.
+/// A decimal in a width, without what is above.
 fn decimal_in(alloc: Global, n: u128, width: u32) -> Result<Tern, OutOfMemory>
     ensures { IfOk result (λ t. tern_bits t ≡ map (λ bit. Some bit) (bits_of width n)) }
 {
@@ -50,7 +50,7 @@ fn is_wide_tern(t: &Tern, width: u32) -> bool
     false
 }
 
-/// A number in a width, without what stands above.
+/// A number in a width, without what is above.
 fn tern_in(alloc: Global, t: &Tern, width: u32) -> Result<Tern, OutOfMemory>
     ensures { IfOk result (λ u. tern_bits u ≡ bits_in width (InBits (tern_bits t.now))) }
 {
@@ -66,7 +66,7 @@ fn tern_in(alloc: Global, t: &Tern, width: u32) -> Result<Tern, OutOfMemory>
 
 /// A number in `width` bits, with zeros added on the left. Position 0 is the lowest bit.
 ///
-/// `Wide` is answered exactly where a 1 or an x stands at position `width` or above. Zeros there are dropped.
+/// `Wide` is answered exactly where a 1 or an x is at position `width` or above. Zeros there are dropped.
 /// The bits take memory by `alloc`; where there is none, the answer is `OutOfMemory`.
 pub fn fit(alloc: Global, number: &Number, width: u32) -> Result<Tern, FitFault>
     ensures ok { IfOk result (λ t. tern_bits t ≡ bits_in width (seen number.now)) }

@@ -34,7 +34,7 @@ pub enum NumberFault {
 /// Why a number doesn't fit a width.
 #[derive(Clone, Copy, PartialEq, Eq, Debug)]
 pub enum FitFault {
-    /// A 1 or an x stands at the width or above.
+    /// A 1 or an x is at the width or above.
     Wide,
     /// There was no memory for the bits.
     OutOfMemory,
@@ -99,7 +99,7 @@ fn read(alloc: Global, text: &[u8], at: Place) -> Result<Number, NumberFault>
 ///
 /// `BadNumber` is answered exactly where the text is none of these, and `TooWide` exactly where a decimal is
 /// above 2^128 - 1 or the digits stand for more than 4096 bits, leading zeros included. Both have the place
-/// `at`, which is where the text stands. The bits take memory by `alloc`; where there is none, the answer is
+/// `at`, which is where the text is. The bits take memory by `alloc`; where there is none, the answer is
 /// `OutOfMemory`.
 pub fn read_number(alloc: Global, text: &[u8], at: Place) -> Result<Number, NumberFault>
     ensures ok { IfOk result (λ number. number_of_text text.now ≡ Some (seen number)) }

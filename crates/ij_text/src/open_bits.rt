@@ -58,7 +58,7 @@ impl OpenBits {
         Ok(())
     }
 
-    /// Adds the `n` lowest bits of a value at the far end, the lowest first, or so many open bits.
+    /// Adds the `n` lowest bits of a value at the far end, the lowest first, or this many open bits.
     pub fn push_digit(&mut self, value: u64, n: u32, is_open: bool) -> Result<(), OutOfMemory>
         requires short { length self.old + n < 2 ^ 32 }
         requires word { n ≤ 64 }

@@ -4,7 +4,7 @@ ghost use Rattle.ij_text.specs.Places.{end_of, next_place, place_at, place_after
 
 use crate::Place;
 
-/// The place after a byte that stands at a place. After a line feed a line begins.
+/// The place after a byte that is at a place. After a line feed a line begins.
 pub fn next_place(at: Place, b: u8) -> Place
     requires column { 1 ≤ at.col }
     requires fits { at.line + at.col + 1 < 2 ^ 32 }
@@ -25,7 +25,7 @@ pub fn next_place(at: Place, b: u8) -> Place
     }
 }
 
-/// The place of the byte after some bytes, of which the first stands at a place.
+/// The place of the byte after some bytes, of which the first is at a place.
 pub fn place_after(at: Place, bytes: &[u8]) -> Place
     requires column { 1 ≤ at.col }
     requires fits { at.line + at.col + length bytes.now < 2 ^ 32 }

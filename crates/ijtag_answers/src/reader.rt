@@ -17,7 +17,7 @@ enum Kind {
     HoldsAny,
 }
 
-/// The text that is read: what it is, its name, what it has so far, and what stands before each line that
+/// The text that is read: what it is, its name, what it has so far, and what comes before each line that
 /// goes on with it.
 #[derive(Drop)]
 struct Open {

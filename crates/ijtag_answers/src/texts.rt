@@ -55,7 +55,7 @@ fn put_plain(text: &str, into: &mut Vec<u8>) {
     }
 }
 
-/// Adds so many times a text that names no other one.
+/// Adds this many times a text that names no other one.
 fn put_times(alloc: Global, count: u32, text: &str, into: &mut Vec<u8>) {
     let mut once = Vec::new(alloc);
     put_plain(text, &mut once);
@@ -88,7 +88,7 @@ impl Texts {
         }
     }
 
-    /// Adds the text of a name, or of so many times a text; tells whether there is one.
+    /// Adds the text of a name, or of this many times a text; tells whether there is one.
     fn put_named(&self, name: &str, into: &mut Vec<u8>) -> bool {
         if let Some((count, text)) = name.split_once(" * ") {
             put_times(self.alloc, count.parse::<u32>().unwrap_or(0), text, into);

@@ -10,14 +10,14 @@ use Rattle.ijtag_stages.specs.declared.refusal.Stage.TheVariants.{File, Icl, Dev
 use Rattle.ijtag_stages.specs.declared.refusal.Stage.TheVariants.{Connect, Nest, Fit, Pdl, Make, Muxtest}
 use Rattle.ijtag_stages.specs.declared.refusal.Stage.TheVariants.{Explain, Where, Picture, Wave}
 
--- what stands after the cause: a place, a number, a text as it stands, or a bit by its register and index
+-- what comes after the cause: a place, a number, a text as it is, or a bit by its register and index
 pub data Arg : Type 0 where
   At : (place : Place) → Arg
   Num : (n : ℕ) → Arg
   Said : (text : List ℕ) → Arg
   Bit : (register : List ℕ) → (index : ℕ) → Arg
 
--- the stage that refuses, the cause, and what stands after it
+-- the stage that refuses, the cause, and what comes after it
 pub record Refusal : Type 0 where
   pub stage : Stage
   pub kind : List ℕ

@@ -42,7 +42,7 @@ fn node_name(alloc: Global, net: &Net, node: u32) -> Result<Name, OutOfMemory>
     without_first(alloc, &text)
 }
 
-/// The name of what stands in an instance under this name.
+/// The name of what is in an instance under this name.
 fn name_in(alloc: Global, net: &Net, node: u32, name: &Name) -> Result<Name, OutOfMemory>
     ensures { IfOk result (λ r. r.items ≡ name_in (seen_net net.now) node name.now.items) }
 {

@@ -79,14 +79,14 @@ impl Stage {
     }
 }
 
-/// What stands after the cause of a refusal.
+/// What comes after the cause of a refusal.
 #[derive(Drop)]
 pub enum Arg {
     /// A place of the stage's text, as `L:C`.
     At(Place),
     /// A number, in decimal digits.
     Num(u64),
-    /// A name or a word, as it stands.
+    /// A name or a word, as it is.
     Said(Text),
     /// A bit of a scan register, by the register's name and the bit's index, as `NAME[INDEX]`.
     Bit(Name, u64),
@@ -99,7 +99,7 @@ pub struct Refusal {
     pub stage: Stage,
     /// The cause, as it is printed.
     pub kind: &'static [u8],
-    /// What stands after it, in the order in which it is printed.
+    /// What comes after it, in the order in which it is printed.
     pub args: List<Arg>,
 }
 
@@ -296,7 +296,7 @@ pub(crate) fn refused_names(
     }
 }
 
-/// Prints what stands after a cause, and a blank before it.
+/// Prints what comes after a cause, and a blank before it.
 #[tactic(auto, unfolding(ij_io::specs::Words::words_text, crate::specs::Refusals::arg_text))]
 fn put_arg<K: Sink>(arg: &Arg, k: &mut K) -> Result<(), StoreFault>
     ensures whole { OnOk result (Adds (K.taken k.old) (K.taken k.new) (arg_text (seen_arg arg.now))) }
@@ -328,7 +328,7 @@ fn put_arg<K: Sink>(arg: &Arg, k: &mut K) -> Result<(), StoreFault>
     }
 }
 
-/// Prints what stands after a cause.
+/// Prints what comes after a cause.
 fn put_args<K: Sink>(args: &[Arg], k: &mut K) -> Result<(), StoreFault>
     ensures whole { OnOk result
         (Adds (K.taken k.old) (K.taken k.new) (flat_map (λ arg. arg_text (seen_arg arg)) args.now)) }
@@ -342,7 +342,7 @@ fn put_args<K: Sink>(args: &[Arg], k: &mut K) -> Result<(), StoreFault>
     Ok(())
 }
 
-/// Prints what stands after a cause, and the line's end.
+/// Prints what comes after a cause, and the line's end.
 fn put_after<K: Sink>(args: &[Arg], k: &mut K) -> Result<(), StoreFault>
     ensures whole { OnOk result (Adds (K.taken k.old) (K.taken k.new)
         (flat_map (λ arg. arg_text (seen_arg arg)) args.now ++ codes "\n")) }

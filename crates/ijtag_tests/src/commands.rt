@@ -170,7 +170,7 @@ pub(crate) struct Failing<'a> {
     pub err: &'a [u32],
 }
 
-/// How a run ended, and what stands then.
+/// How a run ended, and what is then.
 #[derive(Drop)]
 pub(crate) struct Ended {
     pub status: Status,
@@ -196,7 +196,7 @@ impl Ended {
 pub(crate) enum Outcome {
     /// The call wasn't made, and all is there.
     Whole,
-    /// The call was made, and what stands is a first part of all.
+    /// The call was made, and what is is a first part of all.
     Part,
     /// Anything else.
     Wrong,

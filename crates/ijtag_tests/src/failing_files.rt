@@ -25,7 +25,7 @@ fn is_whole(command: &Command<'_>, ended: &Ended) -> bool {
     ended.is(Status::Good, command.report, b"") && held == command.text
 }
 
-/// After so many calls that passed, one failed: a load leaves all, a store leaves a first part of the file,
+/// After this many calls that passed, one failed: a load leaves all, a store leaves a first part of the file,
 /// nothing is printed, and there are no other calls.
 fn is_met(command: &Command<'_>, passed: usize, ended: &Ended) -> bool {
     let written = ended.shelf.file(command.writes);

@@ -1,4 +1,4 @@
-//! Tests of the program where a call of a file or of a stream fails: what it says then, and what stands. What
+//! Tests of the program where a call of a file or of a stream fails: what it says then, and what is. What
 //! it answers to texts is in the cases of `ijtag_answers`.
 #![tactic(auto)]
 

@@ -134,7 +134,7 @@ impl Short {
     }
 }
 
-// How a run ended, and what stands then.
+// How a run ended, and what is then.
 #[derive(Drop)]
 struct Ended {
     status: Status,

@@ -80,7 +80,7 @@ explain e = record {
   leaves = explained e.new;
 }
 
--- ---- where: what stands at one position of one scan is printed, and whether its compare differs
+-- ---- where: what is at one position of one scan is printed, and whether its compare differs
 
 unfoldable pub place_line : ℕ → ℕ → SeenAccepted → List ℕ
 place_line scan bit it = where_text it.network.net it.device it.models it.commands scan bit

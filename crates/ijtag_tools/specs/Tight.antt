@@ -19,7 +19,7 @@ pub record Cost : Type 0 where
 abbrev pub cost_of : List SeenCommand → Cost
 cost_of commands = record { scans = scans_in commands; clocks = length (pins InReset 0 commands) }
 
--- no SVF to which the audit says yes takes fewer clocks than so many
+-- no SVF to which the audit says yes takes fewer clocks than this many
 abbrev pub least_of : SeenAccepted → ℕ
 least_of it = least_clocks it.network.net it.network.form it.device it.steps
 

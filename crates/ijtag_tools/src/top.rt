@@ -21,7 +21,7 @@ use std::alloc::Global;
 ///   plays the commands, and writes the SVF text to NEW once more, with a note after each scan. A text that
 ///   couldn't be read again is refused.
 /// - `where SVF ICL DEVICE TABLES TOP SCAN BIT` loads and accepts the same, plays the commands, and prints
-///   what stands at a position of a scan on `out`; it ends as `Differs` where its compare differs.
+///   what is at a position of a scan on `out`; it ends as `Differs` where its compare differs.
 /// - `picture FORMAT ICL DEVICE TOP NEW` loads the two files in this order, accepts what they hold, and
 ///   writes a drawing of the network to NEW, in the format `svg` or `dot`, in which the active path at
 ///   power-up is marked.
@@ -29,7 +29,7 @@ use std::alloc::Global;
 ///   tables in this order, accepts what they hold, plays the commands, and draws the network as it is before
 ///   the scan of this number, or at the end of the play where it is one more than there are scans.
 /// - `wave KIND SVF ICL DEVICE TABLES TOP NEW` loads and accepts the same, plays the commands, and writes the
-///   waves of all clocks to NEW as a value change dump; with `FROM COUNT` those of so many clocks. KIND is
+///   waves of all clocks to NEW as a value change dump; with `FROM COUNT` those of this many clocks. KIND is
 ///   `pins`, `state` or `all`. It ends as `Differs` where a compare of the whole play differs.
 /// - `tighten HOW ICL PDL DEVICE TOP PROC NEW` loads the three files in this order, accepts what they hold,
 ///   plans the whole procedure for few clocks, in the way `full`, `lean` or `late`, and hands the text to the

@@ -33,7 +33,7 @@ fn check_count(alloc: Global, window: Window) -> Result<Window, StageFault>
     Ok(window)
 }
 
-/// The clocks that are written of a play of so many; refused where the first isn't one of them, and where
+/// The clocks that are written of a play of this many; refused where the first isn't one of them, and where
 /// they are too many.
 fn check_window(alloc: Global, asked: Option<Window>, clocks: u64) -> Result<Window, StageFault>
     ensures { Follows (window_in asked clocks) (λ w. w) result }

@@ -14,14 +14,14 @@ use ijtag_work::{Accepted, Inputs, Stop, Texts, Verdict};
 use std::alloc::Global;
 use svf_notes::{BitAnswer, find_bit};
 
-/// What stands at a position of a scan: whether its compare differs, and the line that says so.
+/// What is at a position of a scan: whether its compare differs, and the line that says so.
 #[derive(Drop)]
 struct Place {
     verdict: Verdict,
     line: SureSink,
 }
 
-/// What stands at a position of a scan; refused where there is no such scan or position.
+/// What is at a position of a scan; refused where there is no such scan or position.
 #[tactic(auto, unfolding(crate::specs::Order::answer_at, crate::specs::Order::place_line))]
 fn look(alloc: Global, it: &Accepted, scan: u64, bit: u64) -> Result<Place, StageFault>
     requires usable { IsUsable it.now }
@@ -44,7 +44,7 @@ fn look(alloc: Global, it: &Accepted, scan: u64, bit: u64) -> Result<Place, Stag
     Ok(Place { verdict, line })
 }
 
-/// Prints what stands at one position of one scan, and ends as a play does where its compare differs. No file
+/// Prints what is at one position of one scan, and ends as a play does where its compare differs. No file
 /// changes.
 impl<'w> Effect for WhereWords<'w> {
     ghost table_row = { λ words. look_up (seen_where words) };

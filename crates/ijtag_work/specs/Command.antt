@@ -93,7 +93,7 @@ network_of icl device top = record { icl = icl; device = device; top = top }
 abbrev pub procedure_of : List ℕ → List ℕ → List ℕ → List ℕ → List ℕ → Procedure
 procedure_of icl pdl device top name = record { network = network_of icl device top; pdl = pdl; name = name }
 
--- ---- the words after a command's name: exactly so many
+-- ---- the words after a command's name: exactly this many
 
 abbrev pub compile_of : List (List ℕ) → Option Command
 compile_of (icl ∷ pdl ∷ device ∷ top ∷ name ∷ svf ∷ []) =

@@ -35,7 +35,7 @@ abbrev pub AreShort : List (List ℕ) → Type 0
 AreShort [] = Unit {0}
 AreShort (text ∷ texts) = (length text ≤ 134217728) × AreShort texts
 
--- so many, each short enough for the readers
+-- this many, each short enough for the readers
 pub record AreTexts (n : ℕ) (texts : List (List ℕ)) : Type 0 where
   pub count : length texts ≡ n
   pub short : AreShort texts

@@ -54,7 +54,7 @@ ReadsAreCompared =
     let script = script_of net (start_holds net) plans in
     AreComparedAt (places net plans) (at_end chip script).reads (compared chip script)
 
--- so each compare is of one read: the one that stands at its scan and position
+-- so each compare is of one read: the one that is at its scan and position
 abbrev pub ComparesAreNamed : Type 0
 ComparesAreNamed =
     (net : Net) (form : Items) (device : Device) (machines : List Machine) (plans : List PlannedStep)
@@ -65,7 +65,7 @@ ComparesAreNamed =
     → IsNamed (places net plans) (at_end chip script).reads c
 
 -- Where bytes are the text of a procedure's bit steps, each compare of their play that differs is of the read
--- that stands at its place in the plans of these steps, and the value found there is the one that the
+-- that is at its place in the plans of these steps, and the value found there is the one that the
 -- procedure's direct meaning finds for this read.
 abbrev pub DiffersAreNamed : Type 0
 DiffersAreNamed =

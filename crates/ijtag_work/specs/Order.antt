@@ -115,7 +115,7 @@ direct d = record {
 unfoldable pub commands_of : List ℕ → Part (List SeenCommand)
 commands_of bytes = record { gives = λ commands. svf bytes ≡ Ok commands; refuses = λ r. ⊥ }
 
--- the report of the play, in which each compare that differs names the iRead of the bit steps that stands at
+-- the report of the play, in which each compare that differs names the iRead of the bit steps that is at
 -- its place
 unfoldable pub run_report : SeenAccepted → List SeenCommand → Part (List ℕ)
 run_report it commands = record {

@@ -64,7 +64,7 @@ pub struct Accepted<'t> {
     pub device: Device,
     /// The models of the network's instruments, in its order, where there are tables.
     pub models: Option<Fitted>,
-    /// The SVF text as it stands, where there is one.
+    /// The SVF text as it is, where there is one.
     pub svf: Option<&'t [u8]>,
     /// Its commands.
     pub commands: Option<Commands>,
@@ -101,7 +101,7 @@ impl<'t> Accepted<'t> {
         models
     }
 
-    /// The SVF text as it stands.
+    /// The SVF text as it is.
     pub fn svf_text(&self) -> &'t [u8]
         requires usable { IsUsable self.now }
         requires some { there self.now.svf ≡ true }

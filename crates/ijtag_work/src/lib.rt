@@ -47,7 +47,7 @@ pub use write::write_file;
 ///   `run` and `direct` tell a difference together.
 /// - `compared`: a play of planned steps from power-up compares their reads, each at its place, with the
 ///   value that the direct meaning finds for it, and nothing else: see `AreComparedAt`.
-/// - `named`: so each compare of this play is of one read: the one that stands at its scan and position, with
+/// - `named`: so each compare of this play is of one read: the one that is at its scan and position, with
 ///   its expectation and the value that the direct meaning finds for it: see `IsNamed`.
 /// - `differs`: so it is for each compare that differs where bytes are the SVF of a procedure's bit steps, by
 ///   the places of any plans of these steps: `run` names the very read whose value differs.

@@ -31,8 +31,8 @@ impl<'a> Load<'a> {
         }
     }
 
-    /// The most bytes that the file may have. One of exactly so many is accepted; a longer one is refused as
-    /// `Long`.
+    /// The most bytes that the file may have. One of exactly this many is accepted; a longer one is refused
+    /// as `Long`.
     fn limit(&self) -> u32
         ensures { result ≡ (seen_load self.now).limit }
     {

@@ -3,12 +3,12 @@ use Rattle.std.specs.Prelude.{ℕ, zero, suc, false, List, [], ◌∷◌}
 use Rattle.net_graph.specs.declared.net.Sig.{Sig}
 use Rattle.net_graph.specs.declared.net.Sig.TheVariants.{Bit, Out}
 
--- so many bits of a register, from a position on
+-- this many bits of a register, from a position on
 abbrev pub register_run : ℕ → ℕ → ℕ → List Sig
 register_run reg pos zero = []
 register_run reg pos (suc n) = Bit (record { reg = reg; pos = pos }) false ∷ register_run reg (suc pos) n
 
--- so many bits of an instrument's output, from a position on
+-- this many bits of an instrument's output, from a position on
 abbrev pub output_run : ℕ → ℕ → ℕ → ℕ → List Sig
 output_run inst port pos zero = []
 output_run inst port pos (suc n) = Out inst port pos false ∷ output_run inst port (suc pos) n

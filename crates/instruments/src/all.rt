@@ -214,7 +214,7 @@ pub fn reset_all(net: &Net, models: &List<Model>, holds: &Holds, runners: &mut [
     }
 }
 
-/// Notes the numbers that stand at the inputs of every instrument, without an event.
+/// Notes the numbers that are at the inputs of every instrument, without an event.
 pub fn see_all(net: &Net, holds: &Holds, runners: &mut [Runner])
     requires well_formed { IsNet net.now }
     requires holds { AreHolds net.now holds.now }

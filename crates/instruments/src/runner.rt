@@ -72,7 +72,7 @@ fn number_by_bits(bits: &[Sig], holds: &Holds) -> u64
     }
 }
 
-/// The number that stands at an input port, its first bit the lowest. Where one register drives it, the
+/// The number that is at an input port, its first bit the lowest. Where one register drives it, the
 /// number is read at once.
 fn port_number(bits: &[Sig], holds: &Holds) -> u64
     requires few { length bits.now ≤ 64 }

@@ -1,4 +1,4 @@
--- What stands on every active path through some rows of multiplexers
+-- What is on every active path through some rows of multiplexers
 -- (IEEE 1687-2014: scan segments, ScanMux, segment insertion bits).
 use Rattle.std.specs.Prelude.{ℕ, zero, suc, ◌+◌, ◌==◌, ◌&&◌, Bool, cond, List, [], ◌∷◌, length}
 use Rattle.std.specs.List.{list_all, list_any}

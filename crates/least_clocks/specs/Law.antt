@@ -12,7 +12,7 @@ use Rattle.svf_audit.specs.Audit.{Reading, Yes, audit}
 use Rattle.least_clocks.specs.Least.{least_clocks}
 
 -- on every network with its nested form: commands that can be played, and of which the audit says yes for
--- some bit steps, take so many clocks of TCK from power-up on, or more
+-- some bit steps, take this many clocks of TCK from power-up on, or more
 abbrev pub NoneTakesFewer : Type 0
 NoneTakesFewer =
     (net : Net) (form : Items) (device : Device) (steps : List SeenStep)

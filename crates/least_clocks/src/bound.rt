@@ -19,7 +19,7 @@ use std::alloc::Global;
 /// They are
 ///
 /// - for each round that changes a bit or reads one 5 clocks, and one for each bit of the registers around
-///   which no row of a multiplexer stands but those around the registers of which it changes or reads a bit;
+///   which no row of a multiplexer is but those around the registers of which it changes or reads a bit;
 /// - before the first such round 5 clocks, and one for each bit of the path at power-up: along it goes the
 ///   first data scan. If all registers that the round asks for are on that path, its own scan is that one;
 /// - before the first such round since power-up or a reset the 6 clocks of a scan of the instruction

@@ -79,7 +79,7 @@ impl Count {
         self.linked = true;
     }
 
-    /// Takes data scans of so many clocks.
+    /// Takes data scans of this many clocks.
     fn scan(&mut self, device: &Device, clocks: u64)
         requires room { self.old.clocks < 2 ^ 63 }
         requires few { clocks ≤ 2 ^ 46 }
@@ -152,7 +152,7 @@ impl Count {
         Ok(())
     }
 
-    /// Does so many clocks in Run-Test/Idle.
+    /// Does this many clocks in Run-Test/Idle.
     fn run(&mut self, cycles: u32)
         requires { self.old.clocks < 2 ^ 63 }
         ensures counts { (net : ANet) (form : Items) (device : ADevice)

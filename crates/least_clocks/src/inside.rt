@@ -1,4 +1,4 @@
-// The bits that stand on every path through some rows.
+// The bits that are on every path through some rows.
 ghost use Rattle.std.specs.Prelude.{◌≡◌, ◌≤◌, ◌*◌, ◌^◌};
 ghost use Rattle.net_graph.specs.Nets.{IsNet};
 ghost use Rattle.least_clocks.specs.Inside as inside;
@@ -19,7 +19,7 @@ fn is_inside(tree: &Tree, rows: &[Branch], reg: u32) -> bool
     true
 }
 
-/// The bits of the registers around which no row stands but these.
+/// The bits of the registers around which no row is but these.
 pub(crate) fn path_bits(net: &Net, tree: &Tree, rows: &[Branch]) -> u64
     requires { IsNet net.now }
     ensures bits { result ≡ inside.path_bits net.now tree.now (inside.is_one_of rows.now) }

@@ -2,7 +2,7 @@
 //! controller; IEEE 1687-2014, PDL level 0; Serial Vector Format, revision E).
 //!
 //! Each round that changes a bit or reads one takes a scan of its own. Its registers are on the path of that
-//! scan, and so is each register around which no other row of a multiplexer stands. The first scan since
+//! scan, and so is each register around which no other row of a multiplexer is. The first scan since
 //! power-up goes along the path at power-up. What else opens the way to a round, and the rows that other
 //! multiplexers are in, don't count.
 #![tactic(auto)]

@@ -61,7 +61,7 @@ later_branches_join :
     ≡ writing (sets 0 0 true ∷ sets 1 0 true ∷ []) ∷ writing (sets 0 0 false ∷ []) ∷ []
 later_branches_join = refl
 
--- an iApply of two rounds stands alone
+-- an iApply of two rounds is alone
 rounds_stand_alone :
     merged in_line ((Apply (group (sets 0 0 true ∷ []) ∷ group (sets 1 0 true ∷ []) ∷ []) ∷ [])
     ∷ (writing (sets 2 0 true ∷ []) ∷ []) ∷ [])

@@ -4,7 +4,7 @@ use Rattle.std.proofs.lemmas.List.{length-append}
 use Rattle.ij_text.specs.declared.Place.{Place}
 use Rattle.net_graph.specs.declared.net.Net.{Net}
 use Rattle.net_graph.specs.SeenSteps.{SeenStep}
-use Rattle.pdl_expand.specs.Values.{ADeed, Writes, Reads, Applies, Runs, Resets, BeginsMerge, EndsBranch}
+use Rattle.pdl_expand.specs.Values.{AnAction, Writes, Reads, Applies, Runs, Resets, BeginsMerge, EndsBranch}
 use Rattle.pdl_expand.specs.Values.{EndsMerge, AStep}
 use Rattle.pdl_targets.specs.Binding.{Queue, Answer, Bound, bound, bound_from, empty, feed as bind, finish}
 use Rattle.pdl_targets.specs.Binding.{with_step}
@@ -59,7 +59,7 @@ module _ (net : Net) (places : Places) (count : Branch → ℕ) (none : count []
   less_ended steps None s n h = omega (arith, none, h)
   less_ended steps (Some fault) s n h = tt
 
-  less_done : (steps : List AStep) (at : Place) (node : ℕ) (s : State) (d : ADeed)
+  less_done : (steps : List AStep) (at : Place) (node : ℕ) (s : State) (d : AnAction)
       → AtMost steps (waiting s.merging + count (bound_on net places steps
       (bind net places s.queue (record { at = at; node = node; what = d }))).steps)
       (feed net places s (record { at = at; node = node; what = d }))

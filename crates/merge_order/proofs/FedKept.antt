@@ -6,7 +6,7 @@ use Rattle.ij_text.specs.declared.Place.{Place}
 use Rattle.net_graph.specs.declared.net.Net.{Net}
 use Rattle.net_graph.specs.SeenSteps.{SeenStep}
 use Rattle.net_graph.specs.Steps.{IsStep}
-use Rattle.pdl_expand.specs.Values.{ADeed, Writes, Reads, Applies, Runs, Resets, BeginsMerge, EndsBranch}
+use Rattle.pdl_expand.specs.Values.{AnAction, Writes, Reads, Applies, Runs, Resets, BeginsMerge, EndsBranch}
 use Rattle.pdl_expand.specs.Values.{EndsMerge, AStep}
 use Rattle.pdl_targets.specs.Binding.{Answer, Bound, bound, bound_from, feed as bind, finish, with_step}
 use Rattle.pdl_targets.specs.Laws.{HasPaths, cycles_of}
@@ -68,26 +68,26 @@ module _ (net : Net) (places : Places) (P : SeenStep → Type 0) (keeps : (bs : 
   after_end steps None s h = (All-nil P, h)
   after_end steps (Some fault) s h = tt
 
-  after_deed : (steps : List AStep) (at : Place) (node : ℕ) (s : State) (d : ADeed) → Wait s.merging
+  after_action : (steps : List AStep) (at : Place) (node : ℕ) (s : State) (d : AnAction) → Wait s.merging
       → All P (bound_on net places steps
       (bind net places s.queue (record { at = at; node = node; what = d }))).steps
       → HasFed steps (feed net places s (record { at = at; node = node; what = d }))
-  after_deed steps at node s (Writes target value) w h = after_bind steps s.merging
+  after_action steps at node s (Writes target value) w h = after_bind steps s.merging
       (bind net places s.queue (record { at = at; node = node; what = Writes target value })) w h
-  after_deed steps at node s (Reads target value) w h = after_bind steps s.merging
+  after_action steps at node s (Reads target value) w h = after_bind steps s.merging
       (bind net places s.queue (record { at = at; node = node; what = Reads target value })) w h
-  after_deed steps at node s Applies w h = after_bind steps s.merging
+  after_action steps at node s Applies w h = after_bind steps s.merging
       (bind net places s.queue (record { at = at; node = node; what = Applies })) w h
-  after_deed steps at node s (Runs value) w h = after_bind steps s.merging
+  after_action steps at node s (Runs value) w h = after_bind steps s.merging
       (bind net places s.queue (record { at = at; node = node; what = Runs value })) w h
-  after_deed steps at node s Resets w h = in_merge s.merging w
+  after_action steps at node s Resets w h = in_merge s.merging w
     where
       in_merge : (m : Option Merging) → Wait m → HasFed steps (reset net places
           (record { queue = s.queue; merging = m }) (record { at = at; node = node; what = Resets }))
       in_merge None v = after_bind steps None
           (bind net places s.queue (record { at = at; node = node; what = Resets })) tt h
       in_merge (Some m) v = tt
-  after_deed steps at node s BeginsMerge w h = in_merge s.merging w
+  after_action steps at node s BeginsMerge w h = in_merge s.merging w
     where
       in_merge : (m : Option Merging) → Wait m
           → HasFed steps (begin_merge at (record { queue = s.queue; merging = m }))
@@ -96,7 +96,7 @@ module _ (net : Net) (places : Places) (P : SeenStep → Type 0) (keeps : (bs : 
         merging = Some (record { branches = []; next = [] });
       }) ((All-nil (All P), All-nil P), h)
       in_merge (Some m) v = tt
-  after_deed steps at node s EndsBranch w h = in_merge s.merging w
+  after_action steps at node s EndsBranch w h = in_merge s.merging w
     where
       in_merge : (m : Option Merging) → Wait m
           → HasFed steps (end_branch (record { queue = s.queue; merging = m }))
@@ -113,7 +113,7 @@ module _ (net : Net) (places : Places) (P : SeenStep → Type 0) (keeps : (bs : 
             ),
             h,
           )
-  after_deed steps at node s EndsMerge w h = in_merge s.merging w
+  after_action steps at node s EndsMerge w h = in_merge s.merging w
     where
       in_merge : (m : Option Merging) → Wait m
           → HasFed steps (end_merge places (record { queue = s.queue; merging = m }))
@@ -123,7 +123,7 @@ module _ (net : Net) (places : Places) (P : SeenStep → Type 0) (keeps : (bs : 
   all_have : (steps : List AStep) (s : State) → Has steps s → All P (fed net places s steps)
   all_have [] s h = All-nil P
   all_have (step ∷ steps) s h = by_fed (λ t k. all_have steps t k) (feed net places s step)
-      (after_deed steps step.at step.node s step.what h.0 h.1)
+      (after_action steps step.at step.node s step.what h.0 h.1)
     where
       by_fed : ((t : State) → Has steps t → All P (fed net places t steps)) → (x : Fed)
           → HasFed steps x → All P (fed_on net places steps x)

@@ -9,7 +9,7 @@ use Rattle.ij_text.specs.Numbers.{InDecimal, InBits}
 use Rattle.net_graph.specs.declared.net.Net.{Net}
 use Rattle.net_graph.specs.SeenSteps.{SeenGroup, Run}
 use Rattle.pdl_parser.specs.Values.{AValue, ANumber, AWord, AnArgument}
-use Rattle.pdl_expand.specs.Values.{ADeed, Writes, Reads, Applies, Runs, Resets, BeginsMerge, EndsBranch}
+use Rattle.pdl_expand.specs.Values.{AnAction, Writes, Reads, Applies, Runs, Resets, BeginsMerge, EndsBranch}
 use Rattle.pdl_expand.specs.Values.{EndsMerge, AStep}
 use Rattle.pdl_targets.specs.Binding.{Answer, Queue, applied, apply, feed as bind, finish, nothing_done, run}
 use Rattle.pdl_targets.specs.Binding.{run_of, run_value, with_reads, with_writes}
@@ -76,36 +76,36 @@ ended None s h = h
 ended (Some fault) s h = tt
 
 module _ (net : Net) (places : Places) (at : Place) (node : ℕ) where
-  abbrev step_of : ADeed → AStep
+  abbrev step_of : AnAction → AStep
   step_of d = record { at = at; node = node; what = d }
 
-  deed_taken : (s : State) (d : ADeed) → HasTurns s.merging
+  action_taken : (s : State) (d : AnAction) → HasTurns s.merging
       → OfFed (λ t. HasTurns t.merging) (feed net places s (step_of d))
-  deed_taken s (Writes target value) h =
+  action_taken s (Writes target value) h =
       taken s.merging (bind net places s.queue (step_of (Writes target value))) h
       (of_none (write_bits net at node target value) (with_writes s.queue at))
-  deed_taken s (Reads target value) h =
+  action_taken s (Reads target value) h =
       taken s.merging (bind net places s.queue (step_of (Reads target value))) h
       (of_none (read_bits net at node (s.queue.asked + 1) target value) (with_reads s.queue at))
-  deed_taken s Applies h =
+  action_taken s Applies h =
       taken s.merging (bind net places s.queue (step_of Applies)) h
       (of_apply at s.queue (groups places s.queue.writes s.queue.reads s.queue.registers))
-  deed_taken s (Runs value) h =
+  action_taken s (Runs value) h =
       taken s.merging (bind net places s.queue (step_of (Runs value))) h (of_value at s.queue value)
-  deed_taken s Resets h = in_merge s.merging
+  action_taken s Resets h = in_merge s.merging
     where
       in_merge : (m : Option Merging) → OfFed (λ t. HasTurns t.merging)
           (reset net places (record { queue = s.queue; merging = m }) (step_of Resets))
       in_merge None = tt
       in_merge (Some m) = tt
-  deed_taken s BeginsMerge h = in_merge s.merging
+  action_taken s BeginsMerge h = in_merge s.merging
     where
       in_merge : (m : Option Merging)
           → OfFed (λ t. HasTurns t.merging) (begin_merge at (record { queue = s.queue; merging = m }))
       in_merge None = ended (finish s.queue) (record
           { queue = s.queue; merging = Some (record { branches = []; next = [] }) }) (All-nil AreTurns, tt)
       in_merge (Some m) = tt
-  deed_taken s EndsBranch h = in_merge s.merging h
+  action_taken s EndsBranch h = in_merge s.merging h
     where
       in_merge : (m : Option Merging) → HasTurns m
           → OfFed (λ t. HasTurns t.merging) (end_branch (record { queue = s.queue; merging = m }))
@@ -119,7 +119,7 @@ module _ (net : Net) (places : Places) (at : Place) (node : ℕ) where
                 (All-cons AreTurns m.next [] k.1 (All-nil AreTurns)),
             tt,
           )
-  deed_taken s EndsMerge h = in_merge s.merging
+  action_taken s EndsMerge h = in_merge s.merging
     where
       in_merge : (m : Option Merging)
           → OfFed (λ t. HasTurns t.merging) (end_merge places (record { queue = s.queue; merging = m }))
@@ -127,4 +127,4 @@ module _ (net : Net) (places : Places) (at : Place) (node : ℕ) where
       in_merge (Some m) = tt
 
 pub merges_have_turns : MergesHaveTurns
-merges_have_turns net places s step h = deed_taken net places step.at step.node s step.what h
+merges_have_turns net places s step h = action_taken net places step.at step.node s step.what h

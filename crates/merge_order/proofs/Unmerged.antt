@@ -3,7 +3,7 @@ use Rattle.std.proofs.Common.{◌≡◌, ℕ, List, [], ◌∷◌, ◌++◌, Opt
 use Rattle.ij_text.specs.declared.Place.{Place}
 use Rattle.net_graph.specs.declared.net.Net.{Net}
 use Rattle.net_graph.specs.SeenSteps.{SeenStep}
-use Rattle.pdl_expand.specs.Values.{ADeed, Writes, Reads, Applies, Runs, Resets, BeginsMerge, EndsBranch}
+use Rattle.pdl_expand.specs.Values.{AnAction, Writes, Reads, Applies, Runs, Resets, BeginsMerge, EndsBranch}
 use Rattle.pdl_expand.specs.Values.{EndsMerge, AStep}
 use Rattle.pdl_targets.specs.Binding.{Queue, Answer, Bound, bound, bound_from, empty, feed as bind, with_step}
 use Rattle.pdl_targets.specs.Rounds.{Places}
@@ -22,7 +22,7 @@ module _ (net : Net) (places : Places) where
   abbrev outside : Queue → State
   outside q = record { queue = q; merging = None }
 
-  as_bound : (at : Place) (node : ℕ) (q : Queue) (d : ADeed) → IsNoMark d
+  as_bound : (at : Place) (node : ℕ) (q : Queue) (d : AnAction) → IsNoMark d
       → feed net places (outside q) (record { at = at; node = node; what = d })
       ≡ answered None (bind net places q (record { at = at; node = node; what = d }))
   as_bound at node q (Writes target value) h = refl

@@ -4,7 +4,7 @@ use Rattle.std.specs.Prelude.{List, [], ◌∷◌, ◌++◌, Option, Some, None}
 use Rattle.ij_text.specs.declared.Place.{Place}
 use Rattle.net_graph.specs.declared.net.Net.{Net}
 use Rattle.net_graph.specs.SeenSteps.{SeenStep}
-use Rattle.pdl_expand.specs.Values.{ADeed, Writes, Reads, Applies, Runs, Resets, BeginsMerge, EndsBranch}
+use Rattle.pdl_expand.specs.Values.{AnAction, Writes, Reads, Applies, Runs, Resets, BeginsMerge, EndsBranch}
 use Rattle.pdl_expand.specs.Values.{EndsMerge, AStep}
 use Rattle.pdl_targets.specs.Binding.{Queue, Answer, empty, feed as bind, finish}
 use Rattle.pdl_targets.specs.Rounds.{Places}
@@ -59,7 +59,7 @@ branch_ended m = record { branches = m.branches ++ m.next ∷ []; next = [] }
 
 -- ---- what each step comes to; a mark of a merge that isn't begun comes to nothing
 
--- no merge stands in a merge
+-- no merge is in a merge
 abbrev pub begin_merge : Place → State → Fed
 begin_merge at s = elim s.merging [
   | None ↦ if_applied (finish s.queue) (record s { merging = Some (record { branches = []; next = [] }) })
@@ -81,7 +81,7 @@ end_merge places s = elim s.merging [
 abbrev pub bind_step : Net → Places → State → AStep → Fed
 bind_step net places s step = answered s.merging (bind net places s.queue step)
 
--- no iReset stands in a merge
+-- no iReset is in a merge
 abbrev pub reset : Net → Places → State → AStep → Fed
 reset net places s step = elim s.merging [
   | None ↦ answered None (bind net places s.queue step)
@@ -89,14 +89,14 @@ reset net places s step = elim s.merging [
 ]
 
 abbrev pub feed : Net → Places → State → AStep → Fed
-feed net places s step = deed step.what
+feed net places s step = action step.what
   where
-    deed : ADeed → Fed
-    deed BeginsMerge = begin_merge step.at s
-    deed EndsBranch = end_branch s
-    deed EndsMerge = end_merge places s
-    deed Resets = reset net places s step
-    deed (Writes target value) = bind_step net places s step
-    deed (Reads target value) = bind_step net places s step
-    deed Applies = bind_step net places s step
-    deed (Runs value) = bind_step net places s step
+    action : AnAction → Fed
+    action BeginsMerge = begin_merge step.at s
+    action EndsBranch = end_branch s
+    action EndsMerge = end_merge places s
+    action Resets = reset net places s step
+    action (Writes target value) = bind_step net places s step
+    action (Reads target value) = bind_step net places s step
+    action Applies = bind_step net places s step
+    action (Runs value) = bind_step net places s step

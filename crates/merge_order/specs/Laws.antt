@@ -7,7 +7,7 @@ use Rattle.net_graph.specs.declared.step.WriteBit.{WriteBit}
 use Rattle.net_graph.specs.Nets.{IsNet}
 use Rattle.net_graph.specs.SeenSteps.{SeenStep, Apply, Run, Reset}
 use Rattle.net_graph.specs.Steps.{IsStep}
-use Rattle.pdl_expand.specs.Values.{ADeed, Writes, Reads, Applies, Runs, Resets, BeginsMerge, EndsBranch}
+use Rattle.pdl_expand.specs.Values.{AnAction, Writes, Reads, Applies, Runs, Resets, BeginsMerge, EndsBranch}
 use Rattle.pdl_expand.specs.Values.{EndsMerge, AStep}
 use Rattle.pdl_targets.specs.Binding.{bound}
 use Rattle.pdl_targets.specs.Laws.{HasPaths, cycles_in, cycles_of, rounds_in, rounds_of}
@@ -16,7 +16,7 @@ use Rattle.merge_order.specs.AllSteps.{fed}
 use Rattle.merge_order.specs.Feeding.{begin}
 use Rattle.merge_order.specs.Merge.{Branch, merged}
 
--- bit steps that a branch can have: no reset stands in one, and a run of no clock is no bit step
+-- bit steps that a branch can have: no reset is in one, and a run of no clock is no bit step
 abbrev pub IsTurn : SeenStep → Type 0
 IsTurn (Apply rounds) = Unit {0}
 IsTurn (Run n) = 1 ≤ n
@@ -128,7 +128,7 @@ FedRunsAreShort = (net : Net) (places : Places) (steps : List AStep)
 
 -- ---- a procedure without merges
 
-abbrev pub IsNoMark : ADeed → Type 0
+abbrev pub IsNoMark : AnAction → Type 0
 IsNoMark (Writes target value) = Unit {0}
 IsNoMark (Reads target value) = Unit {0}
 IsNoMark Applies = Unit {0}

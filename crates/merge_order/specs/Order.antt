@@ -13,7 +13,7 @@ StandIn (x ∷ xs) (y ∷ ys) = ((x ≡ y) × StandIn xs ys) ⊎ StandIn (x ∷ 
 abbrev pub DoesRound : SeenGroup → SeenGroup → Type 0
 DoesRound h g = StandIn g.writes h.writes × StandIn g.reads h.reads
 
--- so many rounds, each does what the other does
+-- this many rounds, each does what the other does
 abbrev pub DoRounds : List SeenGroup → List SeenGroup → Type 0
 DoRounds [] [] = Unit {0}
 DoRounds [] (g ∷ gs) = ⊥

@@ -31,7 +31,7 @@ impl Model for RegSets {
     ghost view = { λ r. r.sets.items };
 }
 
-/// Makes room for so many positions.
+/// Makes room for this many positions.
 fn grow(alloc: Global, sets: &mut Vec<RoundSet>, len: usize) -> Result<(), OutOfMemory>
     ensures long { OnOk result (len ≤ vec_len sets.new) }
     ensures same { (pos : ℕ) → row_at sets.new.items pos ≡ row_at sets.old.items pos }
@@ -78,7 +78,7 @@ impl RegSets {
     }
 }
 
-/// Makes room for so many registers.
+/// Makes room for this many registers.
 fn grow_regs(alloc: Global, regs: &mut Vec<RegSets>, len: usize) -> Result<(), OutOfMemory>
     ensures long { OnOk result (len ≤ vec_len regs.new) }
     ensures same { (reg : ℕ) → sets_of regs.new.items reg ≡ sets_of regs.old.items reg }

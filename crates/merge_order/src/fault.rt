@@ -13,9 +13,9 @@ use std::alloc::AllocError;
 pub enum FeedFault {
     /// There is no memory. No other variant stands for it: [`TargetFault::OutOfMemory`] is never handed on.
     OutOfMemory,
-    /// An `iMerge -begin` stands within an iMerge.
+    /// An `iMerge -begin` is within an iMerge.
     MergeInside { at: Place },
-    /// An iReset stands within an iMerge.
+    /// An iReset is within an iMerge.
     MergeReset { at: Place },
     /// The step can't be bound to register bits, or an `iApply` is missing before a branch or at its end.
     Target(TargetFault),

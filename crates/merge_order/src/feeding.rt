@@ -19,7 +19,7 @@ use ij_bits::{List, OutOfMemory};
 use ij_text::Place;
 use net_graph::{BitStep, Net};
 use net_tree::Tree;
-use pdl_expand::{Deed, Step};
+use pdl_expand::{Action, Step};
 use pdl_targets::{Binder, TargetFault};
 use std::alloc::Global;
 use std::collections::VecDeque;
@@ -242,10 +242,10 @@ impl<'a> Feed<'a> {
         ensures tree { HasItsTree self.new }
     {
         match &step.what {
-            Deed::MergeBegin => self.begin_merge(step.at),
-            Deed::BranchEnd => self.end_branch(),
-            Deed::MergeEnd => Ok(self.end_merge()?),
-            Deed::Reset => self.reset(step),
+            Action::MergeBegin => self.begin_merge(step.at),
+            Action::BranchEnd => self.end_branch(),
+            Action::MergeEnd => Ok(self.end_merge()?),
+            Action::Reset => self.reset(step),
             _ => self.bind(step),
         }
     }

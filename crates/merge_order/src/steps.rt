@@ -19,7 +19,7 @@ use std::marker::Model;
 /// The bit steps of a procedure of the top module, one after the other (IEEE 1687-2014, PDL level 0).
 ///
 /// Contracts see what is left: the `steps` up to the end of the procedure or up to the `fault` in which they
-/// end. The fault of a step stands before that of a later command, and a missing iApply comes only at the end
+/// end. The fault of a step comes before that of a later command, and a missing iApply comes only at the end
 /// of the procedure.
 pub struct BitSteps<'a> {
     progress: Progress<'a>,

@@ -1,4 +1,4 @@
--- The active path goes through a mux exactly where each mux around it is in the row that it stands in.
+-- The active path goes through a mux exactly where each mux around it is in the row that it is in.
 use Rattle.std.proofs.Common.{◌≡◌, ◌⊎◌, inl, inr, ⊎_elim, ℕ, zero, suc, ◌+◌, ◌<◌, Bool, true, false, List, []}
 use Rattle.std.proofs.Common.{◌∷◌, ◌++◌, length, Option, Some, None, refl, sym, ap, ◌∙◌, subst}
 use Rattle.std.specs.Prelude.{◌==◌, All, Contains}
@@ -37,7 +37,7 @@ module _ (net : Net) (holds : Holds) where
       ⊎_elim (λ c. h b c) (λ c. ⊎_elim (λ f. ap (λ (z : Branch). row_of net holds z.mux) (sym f) ∙ e
       ∙ ap (λ (z : Branch). Some z.row) f) (λ z. absurd z) c) (among-cases b around (one_branch m k) a)
 
-  -- a mux that stands in a list, around which each mux is in its row
+  -- a mux that is in a list, around which each mux is in its row
   abbrev IsStanding : List Placed → ℕ → Type 0
   IsStanding xs m = (x : Placed) × Among x xs × (x.item ≡ FromMux m) × AreIn net holds x.place
 

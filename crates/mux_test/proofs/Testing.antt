@@ -34,7 +34,7 @@ use Rattle.mux_test.specs.Test.{branches, branches_from, row_branches, tested_fr
 use Rattle.mux_test.specs.Laws.{AreReached, IsTestable}
 use Rattle.net_bench.proofs.Wide.{wide_at}
 
--- ---- a path isn't empty where there is a mux: the select bits of one that stands in no row are on it
+-- ---- a path isn't empty where there is a mux: the select bits of one that is in no row are on it
 
 some_select : (net : Net) (muxes : List Mux) (m : ℕ) → All (IsMux net) muxes → m < length muxes
     → 1 ≤ length (get_or (map (λ mux. mux.select.items) muxes) m [])
@@ -70,7 +70,7 @@ module _ (net : Net) (form : Items) (t : IsTestable net form) where
   abbrev Outer : Type 0
   Outer = (r : ℕ) × (r < length net.regs.items) × (place_of form (FromReg r) ≡ [])
 
-  -- the register of a select bit of a mux that stands in no row
+  -- the register of a select bit of a mux that is in no row
   free_select : (m : ℕ) → m < length net.muxes.items → place_of form (FromMux m) ≡ [] → Outer
   free_select m l e =
       let (s, a) = first_select (selects_of net m)

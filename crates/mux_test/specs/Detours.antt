@@ -18,7 +18,8 @@ pub record IsDetour (net : Net) (holds : Holds) (b : Branch) (own other : List �
   pub active : route_of net holds ≡ front ++ (own ++ rest)
   pub stuck : stuck_route net b holds ≡ front ++ (other ++ rest)
 
--- a path of so many moves from a mux on goes over these registers to a point, from which fewer moves are left
+-- a path of this many moves from a mux on goes over these registers to a point, from which fewer moves are
+-- left
 pub record GoesTo (net : Net) (holds : Holds) (m : ℕ) (p : Point) (met : List ℕ)
     (moves : ℕ) (whole : List ℕ) : Type 0 where
   pub left : ℕ

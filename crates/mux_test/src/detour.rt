@@ -39,7 +39,7 @@ fn path_room(alloc: Global, net: &Net) -> Result<List<u32>, OutOfMemory>
     Ok(path)
 }
 
-/// In how many rows a point stands. Takes no memory.
+/// In how many rows a point is. Takes no memory.
 fn depth_of(tree: &Tree, at: Point) -> usize {
     match at {
         Point::Entry => 0,

@@ -118,7 +118,7 @@ fn are_in(net: &Net, holds: &Holds, known: &KnownRows, place: &[Branch]) -> bool
     true
 }
 
-/// Whether the active path goes through a mux: each mux around it is in the row that it stands in. Takes no
+/// Whether the active path goes through a mux: each mux around it is in the row that it is in. Takes no
 /// memory.
 fn is_met(net: &Net, tree: &Tree, holds: &Holds, known: &KnownRows, mux: u32) -> bool
     requires testable { IsTestable net.now tree.now }

@@ -85,7 +85,7 @@ pub(crate) fn back(
     }
 }
 
-/// Adds the register that a point is, and answers whether there was room for it among so many.
+/// Adds the register that a point is, and answers whether there was room for it among this many.
 pub(crate) fn meet(at: Point, count: usize, into: &mut List<u32>) -> bool
     requires few { length into.old.items ≤ count }
     requires room { count ≤ length into.old.items + into.old.spare }

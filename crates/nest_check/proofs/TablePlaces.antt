@@ -106,7 +106,7 @@ noted_other numbers i j here n = by_test (is_new (slice_get numbers i))
     by_test true = set_other numbers i j (Some here) n
     by_test false = refl
 
--- ---- what is known of an item: what is left to find, or where it stands
+-- ---- what is known of an item: what is left to find, or where it is
 
 abbrev IsKnown : List Around → Option (Option ℕ) → List Level → List Level → Type 0
 IsKnown met None now whole = now ≡ whole

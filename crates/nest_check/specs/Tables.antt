@@ -82,7 +82,7 @@ table net marks = pass (nothing_named (length net.regs.items) (length net.muxes.
 
 -- ---- the levels of an item
 
--- from a level outwards, so many at most
+-- from a level outwards, this many at most
 abbrev pub climbed_on : (ℕ → List Level) → Option Around → List Level
 climbed_on further None = []
 climbed_on further (Some a) = a.level ∷ further a.outer

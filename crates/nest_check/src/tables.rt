@@ -8,7 +8,7 @@ use net_graph::{Net, Point};
 use net_tree::Mark;
 use std::alloc::Global;
 
-/// A level, and what stands around it.
+/// A level, and what is around it.
 #[derive(Clone, Copy, Drop)]
 pub(crate) struct Around {
     /// The mux, and how many of its rows have begun.
@@ -17,7 +17,7 @@ pub(crate) struct Around {
     pub outer: usize,
 }
 
-/// The levels of a form, and where each register and mux stands.
+/// The levels of a form, and where each register and mux is.
 #[derive(Drop)]
 pub(crate) struct Tables {
     /// The levels that were met; their numbers count from 1.
@@ -30,7 +30,7 @@ pub(crate) struct Tables {
     pub muxes: Vec<Option<usize>>,
 }
 
-/// Notes where an item stands that isn't noted yet.
+/// Notes where an item is that isn't noted yet.
 fn note(numbers: &mut Vec<Option<usize>>, item: usize, here: usize)
     ensures { numbers.new.items ≡ tables.noted numbers.old.items item here }
 {

@@ -131,7 +131,7 @@ pub(crate) fn uses_of(alloc: Global, net: &Net) -> Result<Uses, OutOfMemory>
 }
 
 impl Uses {
-    /// Whether a bit stands at most once among all select bits.
+    /// Whether a bit is at most once among all select bits.
     pub fn is_unshared(&self, net: &Net, bit: BitId) -> bool
         requires uses { uses.AreUses net.now self.now }
         requires there { IsBitOf net.now bit }

@@ -126,7 +126,7 @@ module _ (L : Type 0) where
       ≡ scan_compares (suc scans) 0 (played no_scan scan).expects (captured chip s))
 
   -- A data scan of any length: the registers capture, the scan's bits are shifted through them, each bit that
-  -- comes out is compared with what is expected of it, and what stands in the registers at the end takes
+  -- comes out is compared with what is expected of it, and what is in the registers at the end takes
   -- effect.
   abbrev pub AnyLongScanShifts : Type 0
   AnyLongScanShifts =

@@ -37,7 +37,7 @@ abbrev pub played_count : Option Played → ℕ
 played_count None = 0
 played_count (Some p) = p.piece.count
 
--- a board that shifts so many clocks by moving the bits of its active path
+-- a board that shifts this many clocks by moving the bits of its active path
 pub record CanMove (b : Board) (n : ℕ) : Type 0 where
   pub tap : b.tap ≡ ShiftDr
   pub selected : b.selected ≡ Network

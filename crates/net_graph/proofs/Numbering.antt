@@ -15,7 +15,7 @@ use Rattle.net_graph.specs.MarkLaws.{BitsStay, OthersStay, SetIsThere}
 use Rattle.net_graph.specs.Marks.{HasMark, Marks, mark_at, set_mark}
 use Rattle.net_graph.specs.Numbered.{AreNumbered, first_bit, first_bits}
 
--- nothing stands at no position
+-- nothing is at no position
 pub no_position : {A : Type 0} (p : A → Bool) (xs : List A)
     → None ≡ position p xs → length xs ≤ position_or_len p xs
 no_position p xs e = by_test (nat_lt (position_or_len p xs) (length xs)) refl e

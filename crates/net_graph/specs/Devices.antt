@@ -4,7 +4,7 @@
 use Rattle.std.specs.Prelude.{◌≢◌, ◌<◌, ◌≤◌, ◌-◌, ◌^◌, ℕ, Option, Some, None}
 use Rattle.net_graph.specs.declared.device.Device.{Device}
 
--- an opcode of an instruction register of so many bits that isn't BYPASS
+-- an opcode of an instruction register of this many bits that isn't BYPASS
 pub record IsOpcode (ir opcode : ℕ) : Type 0 where
   pub fits : opcode < 2 ^ ir
   pub not_bypass : opcode ≢ 2 ^ ir - 1

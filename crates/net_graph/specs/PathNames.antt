@@ -1,4 +1,4 @@
--- The written paths of what stands in a network: the instance names below the top, and a name of its own,
+-- The written paths of what is in a network: the instance names below the top, and a name of its own,
 -- with dots between (IEEE 1687-2014, ICL: Instance, ScanRegister, data ports, Alias, ScanMux).
 use Rattle.std.specs.Prelude.{ℕ, List, [], ◌∷◌, ◌++◌, map, get_or}
 use Rattle.std.specs.List.{flat_map}

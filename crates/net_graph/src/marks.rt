@@ -23,7 +23,7 @@ impl Model for BitMarks {
     ghost view = { λ m. map (λ marks. marks.items) m.regs.items };
 }
 
-/// So many zeros.
+/// This many zeros.
 fn zeros(alloc: Global, width: u32) -> Result<List<u32>, OutOfMemory>
     ensures { IfOk result (λ marks. marks.items ≡ zeros width) }
 {

@@ -13,7 +13,7 @@ use crate::marks::BitMarks;
 use crate::net::{BitId, Net};
 use crate::step::{ReadBit, WriteBit};
 
-/// The place that the mark of a bit says, where it is among so many.
+/// The place that the mark of a bit says, where it is among this many.
 fn place_of(marks: &BitMarks, bit: BitId, count: usize) -> Option<usize>
     ensures some { IfSome result (λ i. (i < count) × (mark_at marks.now bit ≡ i + 1)) }
     ensures none { IfNone result ((i : ℕ) → i < count → mark_at marks.now bit ≡ i + 1 → ⊥) }
@@ -26,7 +26,7 @@ fn place_of(marks: &BitMarks, bit: BitId, count: usize) -> Option<usize>
     }
 }
 
-/// Gives a bit the mark of the place after so many others. Where these have the marks of their places, and
+/// Gives a bit the mark of the place after this many others. Where these have the marks of their places, and
 /// none of them is this bit, all have them then. Takes no memory.
 pub fn mark_next(_net: &Net, marks: &mut BitMarks, bit: BitId, count: usize)
     requires few { count + 1 < 2 ^ 32 }
@@ -39,7 +39,7 @@ pub fn mark_next(_net: &Net, marks: &mut BitMarks, bit: BitId, count: usize)
     marks.set(bit, count as u32 + 1);
 }
 
-/// Where the write of a bit stands among some whose bits have the marks of their places, or none. It looks at
+/// Where the write of a bit is among some whose bits have the marks of their places, or none. It looks at
 /// one mark. Takes no memory.
 pub fn written_at(_net: &Net, marks: &BitMarks, writes: &[WriteBit], bit: BitId) -> Option<usize>
     requires { AreNumbered _net.now marks.now (bits_written writes.now) }
@@ -57,7 +57,7 @@ pub fn written_at(_net: &Net, marks: &BitMarks, writes: &[WriteBit], bit: BitId)
     }
 }
 
-/// Where the read of a bit stands among some whose bits have the marks of their places, or none. It looks at
+/// Where the read of a bit is among some whose bits have the marks of their places, or none. It looks at
 /// one mark. Takes no memory.
 pub fn read_at(_net: &Net, marks: &BitMarks, reads: &[ReadBit], bit: BitId) -> Option<usize>
     requires { AreNumbered _net.now marks.now (bits_compared reads.now) }

@@ -43,7 +43,7 @@ use Rattle.net_list.specs.Lines.{register_text, register_line}
 
 -- ---- the innermost row of a place
 
--- an item stands where its list stands, or in a row of the innermost mux around it
+-- an item is where its list is, or in a row of the innermost mux around it
 abbrev IsInner : List Placed → List Branch → Type 0
 IsInner xs place = (y : Placed) × (m q : ℕ) × Among y xs
     × (y.item ≡ FromMux m) × (place ≡ y.place ++ one_branch m q)
@@ -230,7 +230,7 @@ module _ (net : Net) (form : Items) (n : IsNet net) (d : Describes net form) (w 
 pub scans_are_fewest : ScansAreFewest
 scans_are_fewest net form r n d w l = fewest net form n d w r l
 
--- ---- the plans of the row that a register stands in
+-- ---- the plans of the row that a register is in
 
 pub at_top : (net : Net) (form : Items) (r : ℕ) → place_of form (FromReg r) ≡ [] → fewest_scans net form r ≡ 1
 at_top net form r e =
@@ -276,7 +276,7 @@ can_plan net form r row h n d w start i =
       listed = subst (IsScannable net) (sym start) (start_scannable net form w);
     }
 
--- so many plans has that row
+-- this many plans has that row
 pub planned_scans : (net : Net) (form : Items) (r : ℕ) (row : Branch) (h : Holds) (plans : List ScanPlan)
     → h ≡ start_holds net → IsInnermost net form r row → RowPlanned net form row h (map seen_plan plans)
     → length plans ≡ fewest_scans net form r

@@ -31,7 +31,7 @@ open_name net b = register_path net b.reg ++ (91 ∷ [] ++ decimal (index_of net
 abbrev pub bit_name : Net → BitId → List ℕ
 bit_name net b = open_name net b ++ 93 ∷ []
 
--- whether a signal stands in a register at the left of another
+-- whether a signal is in a register at the left of another
 abbrev pub is_left_of : Sig → Sig → Bool
 is_left_of Absent right = false
 is_left_of Zero right = false
@@ -72,7 +72,7 @@ run_end net more One = []
 run_end net more (Bit b v) = last_index net b more
 run_end net more (Out i p q v) = []
 
--- one position of so many bits; runs have commas between
+-- one position of this many bits; runs have commas between
 abbrev pub driver : Net → List Sig → ℕ → List ℕ
 driver net bits p =
     let s = get_or bits p Absent in

@@ -5,7 +5,7 @@ use Rattle.ij_bits.specs.declared.tern.Tern.{Tern}
 use Rattle.net_list.specs.declared.format.ListFormat.{ListFormat}
 use Rattle.net_list.specs.declared.format.ListFormat.TheVariants.{Text, Json}
 
--- what stands in text, and in JSON
+-- what is in text, and in JSON
 abbrev pub either : ListFormat → List ℕ → List ℕ → List ℕ
 either Text text json = text
 either Json text json = json

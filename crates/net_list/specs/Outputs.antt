@@ -20,7 +20,7 @@ port_name net i p =
 abbrev pub output_path : Net → ℕ → ℕ → List ℕ
 output_path net i p = instance_path net (node_of net i) ++ (codes "." ++ port_name net i p)
 
--- whether a thing is the port of a node, of this name and of so many bits
+-- whether a thing is the port of a node, of this name and of this many bits
 abbrev pub is_port : Thing → ℕ → List ℕ → ℕ → Bool
 is_port thing node name width =
     (thing.node == node) && (bytes_eq thing.name.items name && length thing.bits.items == width)

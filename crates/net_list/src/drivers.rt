@@ -12,7 +12,7 @@ use crate::names::{index_of, put_open_name};
 use ij_io::{Sink, StoreFault, Word, put_words};
 use net_graph::{BitId, Net, Sig};
 
-/// Whether a signal stands in a register at the left of another.
+/// Whether a signal is in a register at the left of another.
 fn is_left_of(left: Sig, right: Sig) -> bool
     ensures { result ≡ drivers.is_left_of left right }
 {

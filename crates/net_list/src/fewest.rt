@@ -28,7 +28,7 @@ fn is_in_row(net: &Net, holds: &Holds, row: Branch) -> bool
     row_of(net, holds, row.mux) == Some(row.row)
 }
 
-/// The fewest scans through a row that stands in no other: one where the mux is in it, and two where it must
+/// The fewest scans through a row that is in no other: one where the mux is in it, and two where it must
 /// be selected.
 fn scans_through(net: &Net, holds: &Holds, row: Branch) -> usize
     requires well_formed { IsNet net.now }
@@ -40,7 +40,7 @@ fn scans_through(net: &Net, holds: &Holds, row: Branch) -> usize
 }
 
 /// The fewest scans from power-up on in which a register is first written, by its place: those of the row
-/// that it stands in. They are planned only where that row stands in another.
+/// that it is in. They are planned only where that row is in another.
 pub(crate) fn fewest_scans(
     alloc: Global,
     net: &Net,

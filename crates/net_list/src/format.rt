@@ -1,4 +1,4 @@
-// The forms of a listing, and what stands in one of them alone.
+// The forms of a listing, and what is in one of them alone.
 ghost use Rattle.std.specs.Prelude.{◌≡◌, OnOk, OnErr};
 ghost use Rattle.ij_io.specs.Bytes.{Adds, AddsPart};
 ghost use Rattle.ij_io.specs.Causes.{HasCause};
@@ -15,7 +15,7 @@ pub enum ListFormat {
     Json,
 }
 
-/// What stands in a form.
+/// What is in a form.
 pub(crate) fn either<'a>(format: ListFormat, text: &'a [u8], json: &'a [u8]) -> &'a [u8]
     ensures { result.now ≡ forms.either format text.now json.now }
 {
@@ -25,7 +25,7 @@ pub(crate) fn either<'a>(format: ListFormat, text: &'a [u8], json: &'a [u8]) -> 
     }
 }
 
-/// Writes what stands in a form.
+/// Writes what is in a form.
 pub(crate) fn put_either<K: Sink>(
     format: ListFormat,
     text: &[u8],

@@ -215,7 +215,7 @@ fn put_row_count<K: Sink>(
     put_count(format, b" rows ", b"\",\"rows\":", rows as u64, k)
 }
 
-/// Writes the line of a mux that stands in so many rows.
+/// Writes the line of a mux that is in this many rows.
 fn put_text<K: Sink>(
     format: ListFormat,
     net: &Net,

@@ -45,7 +45,7 @@ fn port_width(net: &Net, inst: u32, port: u32) -> u32
     net.insts.get(inst as usize).outs.get(port as usize).width
 }
 
-/// Whether a thing is the port of a node, of this name and of so many bits.
+/// Whether a thing is the port of a node, of this name and of this many bits.
 fn is_port(thing: &Thing, node: u32, name: &[u8], width: u32) -> bool
     ensures { result ≡ outputs.is_port thing.now node name.now width }
 {
@@ -61,7 +61,7 @@ fn index_of_thing(thing: &Thing, pos: u32) -> u64
     index_between(thing.left, thing.right, pos)
 }
 
-/// The index at a position of the port of a node, of this name and of so many bits, and the position where
+/// The index at a position of the port of a node, of this name and of this many bits, and the position where
 /// there is none.
 fn index_in(things: &[Thing], node: u32, name: &[u8], width: u32, pos: u32) -> u64
     ensures { result ≡ outputs.index_in things.now node name.now width pos }

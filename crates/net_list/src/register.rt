@@ -149,7 +149,7 @@ pub fn put_reset<K: Sink>(net: &Net, reg: u32, k: &mut K) -> Result<(), StoreFau
     put_digits(value, value.len(), k)
 }
 
-/// Writes the line of a register that stands in these rows, selects in these muxes and is reached in so many
+/// Writes the line of a register that is in these rows, selects in these muxes and is reached in this many
 /// scans.
 fn put_text<K: Sink>(
     format: ListFormat,

@@ -21,7 +21,7 @@ use std::alloc::Global;
 /// network's order, and totals (IEEE 1687-2014, ICL: `ScanRegister`, `ScanMux`, `Instance`).
 ///
 /// A register has its path, bits, reset value (the left bit first, an x where it has none), the number of
-/// rows that it stands in, the fewest scans from power-up on in which it is first written, these rows
+/// rows that it is in, the fewest scans from power-up on in which it is first written, these rows
 /// (multiplexer and select values, outermost first) and the multiplexers in which it selects; a multiplexer
 /// its rows and select values, its select bits and the number of rows around it; an instrument its data
 /// ports, and what drives its inputs. Select bits, select values and drivers begin at the left, the highest

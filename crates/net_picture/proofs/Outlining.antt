@@ -35,7 +35,7 @@ abbrev Next : List Shape → List Shape → Type 0
 Next us vs = (before other : Option Shape) → IsHarmless before → IsHarmless other
     → outline_after before us ≡ outline_after other vs
 
--- what stands before the same is the same
+-- what comes before the same is the same
 abbrev AreAlike : List Shape → List Shape → Type 0
 AreAlike xs ys = (us vs : List Shape) → Next us vs → Next (xs ++ us) (ys ++ vs)
 
@@ -105,7 +105,7 @@ open_values m q x y = record {
       (ne_eqb (x + 14) (x + 7) (λ e. omega (arith, e)));
 }
 
--- what stands before the next wire
+-- what comes before the next wire
 abbrev after_shown : Bool → Bool → ℕ → ℕ → ℕ → ℕ → RowEnd → Option Shape
 after_shown selected on m q x y e =
     cond selected (Some (Wire x e.y (x + 7) (x + 14) y on)) (Some (Values m q x e.y))

@@ -350,7 +350,7 @@ module _ (net : Net) (n : IsNet net) where
 
   -- ---- nodes
 
-  -- what stands after a label, and what it says of colour
+  -- what comes after a label, and what it says of colour
   abbrev ReadsStyle : List ℕ → Colour → Type 0
   ReadsStyle after colour = (label : List ℕ) → IsPlain label
       → IsAttribute (codes "label=\"" ++ (label ++ after)) (Row label) label colour
@@ -482,7 +482,7 @@ module _ (net : Net) (n : IsNet net) where
   one_each f [] = refl
   one_each f (x ∷ xs) = ap (λ (es : List Said). f x ∷ es) (one_each f xs)
 
-  -- so many lines, one for each number
+  -- this many lines, one for each number
   read_each : (line : ℕ → List ℕ) (found : ℕ → Said) (k : ℕ)
       → ((j : ℕ) → j < k → Reads (line j) (found j ∷ []))
       → Reads (lines_from line 0 k) (map found (range_with_len 0 k))

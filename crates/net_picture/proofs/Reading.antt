@@ -218,7 +218,7 @@ pub record IsWord (first : ℕ) (others : List ℕ) (node : Node) : Type 0 where
   pub no_keyword : is_keyword (first ∷ others) ≡ false
   pub named : node_named (first ∷ others) ≡ Some node
 
--- what stands after a bracket (91) up to the end of a line, and what is read of it
+-- what comes after a bracket (91) up to the end of a line, and what is read of it
 pub record IsAttribute (text : List ℕ) (link : Link) (label : List ℕ) (colour : Colour) : Type 0 where
   pub rest : List ℕ
   pub first : List ℕ
@@ -347,7 +347,7 @@ dashed = record {
   colour_is = refl;
 }
 
--- what stands after a label's comma, and what is read of it
+-- what comes after a label's comma, and what is read of it
 pub record IsTail (text : List ℕ) (colour : Colour) : Type 0 where
   pub rest : List ℕ
   pub found : List Attribute

@@ -1,4 +1,4 @@
--- Rooms of rows, and what stands before a point, one after the other.
+-- Rooms of rows, and what comes before a point, one after the other.
 use Rattle.std.proofs.Common.{◌≡◌, ℕ, zero, suc, ◌+◌, ◌<◌, List, [], ◌∷◌, ◌++◌, Option, Some, None, length}
 use Rattle.std.proofs.Common.{drop, get_or, refl, sym, ap, ◌∙◌, arith, append_assoc, append-nil}
 use Rattle.std.specs.Prelude.{max, IfSome}
@@ -54,7 +54,7 @@ pub met_done : (net : Net) (holds : Holds) (n : ℕ) (now : Option Point) (old a
 met_done net holds n now old all none left =
     sym (append-nil old) ∙ sym (ap (λ (k : ℕ). old ++ met_from net holds k now) none) ∙ left
 
--- what stands before a point of the network is one, too
+-- what comes before a point of the network is one, too
 some_there : (net : Net) (o b : Option Point) → o ≡ b
     → ((q : Point) → b ≡ Some q → IsPointOf net q) → IfSome o (IsPointOf net)
 some_there net None b e f = tt

@@ -111,7 +111,7 @@ after items = gather none one items
 abbrev after_rows : Rows → List ℕ
 after_rows rows = gather_rows none one rows
 
--- a number that stands in neither order
+-- a number that is in neither order
 mutual
   off : (k : ℕ) (items : Items) → NotIn k (muxes_in items) → NotIn k (after items)
   off k Nothing a = tt

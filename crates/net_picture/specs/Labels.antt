@@ -39,7 +39,7 @@ register_label net r = register_path net r ++ range_if net r
 abbrev pub row_values : List Row → ℕ → List ℕ
 row_values rows q = get_or (map (λ row. values_text row.values.items) rows) q []
 
--- how many letters are left of a text of so many
+-- how many letters are left of a text of this many
 abbrev pub short_length : ℕ → ℕ → ℕ
 short_length h letters = min letters (2 * h + 2)
 

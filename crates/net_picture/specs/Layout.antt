@@ -55,7 +55,7 @@ wire_to active p =
 abbrev pub row_wire : Bool → Pen → Fan → Shape
 row_wire active p f = Wire (p.x + 18) p.y (p.x + 26) f.x f.y active
 
--- the wire within a funnel that stands at x, with its output at y, from the row that is selected
+-- the wire within a funnel that is at x, with its output at y, from the row that is selected
 abbrev pub row_shown : Bool → Bool → ℕ → ℕ → RowEnd → List Shape
 row_shown selected active x y e = cond selected (Wire x e.y (x + 7) (x + 14) y active ∷ []) []
 

@@ -11,7 +11,7 @@ use Rattle.net_tree.specs.Places.{same_point}
 use Rattle.net_picture.specs.Layout.{is_row}
 use Rattle.net_picture.specs.Plan.{has_path}
 
--- what stands before a point on the active path; nothing before scan-in, or before a multiplexer that is in
+-- what comes before a point on the active path; nothing before scan-in, or before a multiplexer that is in
 -- none of its rows
 abbrev pub before : Net → Holds → Point → Option Point
 before net holds Entry = None

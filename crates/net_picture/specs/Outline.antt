@@ -15,14 +15,14 @@ bare (Mux m x y height active) = Mux m x y height false
 bare (Values m q x y) = Values m q x y
 bare (Wire x y turn to_x to_y active) = Wire x y turn to_x to_y false
 
--- the wire within a funnel stands after the select values of its row, turns in the middle of the funnel, and
+-- the wire within a funnel comes after the select values of its row, turns in the middle of the funnel, and
 -- ends at its right side
 abbrev pub is_within : Option Shape → Shape → Bool
 is_within (Some (Values m q x y)) (Wire from_x from_y turn to_x to_y active) =
     (turn == x + 7) && (to_x == x + 14)
 is_within before shape = false
 
--- what is left of shapes that stand after another one
+-- what is left of shapes that come after another one
 abbrev pub outline_after : Option Shape → List Shape → List Shape
 outline_after before [] = []
 outline_after before (s ∷ ss) = cond (is_within before s) [] (bare s ∷ []) ++ outline_after (Some s) ss

@@ -31,7 +31,7 @@ abbrev pub moved : Pen → ℕ → ℕ → Pen
 moved p x bottom =
     record { left = p.left; x = x; y = p.y; right = max p.right x; bottom = max p.bottom bottom }
 
--- a register stands after its wire
+-- a register comes after its wire
 abbrev pub after_register : Pen → ℕ → Pen
 after_register p width = moved p (p.x + 18 + width) p.bottom
 
@@ -44,7 +44,7 @@ abbrev pub after_row : Fan → Pen → Fan
 after_row f p =
     record { x = f.x; y = p.bottom + 24; right = max f.right p.right; last = p.y; bottom = p.bottom }
 
--- the funnel stands to the right of all rows and their select values; it is 14 wide
+-- the funnel is to the right of all rows and their select values; it is 14 wide
 abbrev pub funnel_at : Fan → ℕ → ℕ
 funnel_at f values = f.right + values
 

@@ -50,7 +50,7 @@ pub record Attribute : Type 0 where
   pub value : List ℕ
   pub is_last : Bool
 
--- what stands after an attribute: a comma, or the end of the list
+-- what comes after an attribute: a comma, or the end of the list
 abbrev pub is_last_before : List ℕ → Option Bool
 is_last_before end = cond (bytes_eq end (codes ",")) (Some false)
     (cond (bytes_eq end (codes "];")) (Some true) None)
@@ -146,7 +146,7 @@ edge_said (Some from) (Some to) (Some attributes) =
     Some (HasEdge (record { from = from; to = to; link = link_in attributes }) (colour_in attributes) ∷ [])
 edge_said from to attributes = None
 
--- what stands after an arrow
+-- what comes after an arrow
 abbrev pub edge_from : List ℕ → List (List ℕ) → Option (List Said)
 edge_from from [] = None
 edge_from from (to ∷ others) = edge_said (node_named from) (node_named to) (attributes_in others)
@@ -160,7 +160,7 @@ abbrev pub setting_in : List (List ℕ) → Option (List Said)
 setting_in (setting ∷ [] ∷ []) = setting_by (split 61 setting)
 setting_in parts = None
 
--- what stands after the first word, which isn't a keyword; one word alone may be a setting
+-- what comes after the first word, which isn't a keyword; one word alone may be a setting
 abbrev pub thing_said : List ℕ → List (List ℕ) → Option (List Said)
 thing_said word [] = setting_in (split 59 word)
 thing_said word (next ∷ others) =
@@ -199,7 +199,7 @@ abbrev pub words_said : List (List ℕ) → Option (List Said)
 words_said [] = Some []
 words_said (word ∷ others) = cond (is_keyword word) (keyword_said word others) (thing_said word others)
 
--- what stands after two slashes (47) and a blank
+-- what comes after two slashes (47) and a blank
 abbrev pub comment_in : List ℕ → Option (List ℕ)
 comment_in (a ∷ b ∷ c ∷ text) = cond ((a == 47) && ((b == 47) && (c == 32))) (Some text) None
 comment_in line = None
@@ -225,7 +225,7 @@ GraphsAreRead =
     (net : Net) (holds : Holds) (marked : Option Point) → IsNet net
     → read_graph (dot_text net holds marked) ≡ said net holds marked
 
--- a first line that is a comment is read as it stands
+-- a first line that is a comment is read as it is
 abbrev pub CommentsAreRead : Type 0
 CommentsAreRead =
     (comment text : List ℕ) → All (λ b. (b == 10) ≡ false) comment

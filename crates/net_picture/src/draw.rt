@@ -10,7 +10,7 @@ use crate::plan::MuxPlan;
 use crate::shape::{RowEnd, Shape};
 use ij_bits::OutOfMemory;
 
-/// Where a funnel stands: its multiplexer, whether that is on the active path, its left edge and the height
+/// Where a funnel is: its multiplexer, whether that is on the active path, its left edge and the height
 /// of its output.
 #[derive(Clone, Copy, Drop)]
 struct Funnel {

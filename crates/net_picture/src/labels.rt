@@ -17,7 +17,7 @@ use net_list::{index_of, put_register_path, put_values};
 use path_names::put_mux_path;
 use std::alloc::Global;
 
-/// How many letters are left of a text of so many.
+/// How many letters are left of a text of this many.
 fn short_length(half: usize, letters: usize) -> usize
     requires { half ≤ 100 }
     ensures { result ≡ labels.short_length half letters }

@@ -41,7 +41,7 @@ pub fn picture_laws()
 /// multiplexer once, with its path, and nothing else. A register and the edge to it are in colour exactly
 /// where it is on the active path, a multiplexer where it is met there, and the edge of a row where this is
 /// the one that is selected, too; what is marked is red. A comment on a line before the text is read as it
-/// stands.
+/// is.
 pub fn graph_laws()
     ensures sources { EdgesAreSources }
     ensures edges { EdgesAreSaid }

@@ -160,7 +160,7 @@ fn draw_mux(
     })
 }
 
-/// Draws so many rows, and leaves where each of them ends.
+/// Draws this many rows, and leaves where each of them ends.
 #[cycle(form)]
 fn draw_rows(
     alloc: Global,
@@ -229,7 +229,7 @@ fn draw_row(
     }
 }
 
-/// Where a row ends that begins at an index and spans so many entries.
+/// Where a row ends that begins at an index and spans this many entries.
 fn span_end(entries: &[Entry], at: usize, span: usize) -> usize
     requires { at < length entries.now }
     ensures after { at < result }

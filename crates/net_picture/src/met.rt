@@ -57,7 +57,7 @@ fn passed_on(net: &Net, holds: &Holds, mux: u32) -> Option<Point>
     }
 }
 
-/// What stands before a point on the active path: nothing before scan-in, and nothing before a multiplexer
+/// What comes before a point on the active path: nothing before scan-in, and nothing before a multiplexer
 /// that is in none of its rows.
 fn before(net: &Net, holds: &Holds, point: Point) -> Option<Point>
     requires well_formed { IsNet net.now }
@@ -107,7 +107,7 @@ fn met_back(alloc: Global, net: &Net, holds: &Holds) -> Result<Vec<Point>, OutOf
     Ok(points)
 }
 
-/// Adds a point that is met, and answers what stands before it.
+/// Adds a point that is met, and answers what comes before it.
 fn meet(
     net: &Net,
     holds: &Holds,

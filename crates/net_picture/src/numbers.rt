@@ -14,7 +14,7 @@ pub(crate) fn plus(a: u64, b: u64) -> Result<u64, OutOfMemory>
     }
 }
 
-/// So many units for each letter, and some more.
+/// This many units for each letter, and some more.
 pub(crate) fn room_for(each: u64, letters: usize, more: u64) -> Result<u64, OutOfMemory>
     ensures { IfOk result (λ room. room ≡ each * letters + more) }
 {

@@ -96,7 +96,7 @@ impl Pen {
         }
     }
 
-    /// A register stands after its wire.
+    /// A register comes after its wire.
     pub(crate) fn after_register(self, width: u64) -> Result<Pen, OutOfMemory>
         ensures { IfOk result (λ pen. pen ≡ pens.after_register self width) }
     {
@@ -118,7 +118,7 @@ impl Pen {
         })
     }
 
-    /// A multiplexer stands after its wire.
+    /// A multiplexer comes after its wire.
     pub(crate) fn after_mux(self, fan: Fan, values: u64, name: u64) -> Result<Pen, OutOfMemory>
         ensures { IfOk result (λ pen. pen ≡ pens.after_mux self fan values name) }
     {
@@ -142,7 +142,7 @@ impl Fan {
         })
     }
 
-    /// Where the funnel stands.
+    /// Where the funnel is.
     pub(crate) fn funnel(self, values: u64) -> Result<u64, OutOfMemory>
         ensures { IfOk result (λ x. x ≡ pens.funnel_at self values) }
     {

@@ -44,7 +44,7 @@ pub(crate) fn short_register(alloc: Global, net: &Net, reg: u32) -> Result<SureS
     in_memory(short(alloc, 19, text.bytes()))
 }
 
-/// What stands beside a funnel.
+/// What is beside a funnel.
 pub(crate) fn short_mux(alloc: Global, net: &Net, mux: u32) -> Result<SureSink, OutOfMemory>
     requires well_formed { IsNet net.now }
     requires there { mux < length net.now.muxes.items }
@@ -54,7 +54,7 @@ pub(crate) fn short_mux(alloc: Global, net: &Net, mux: u32) -> Result<SureSink, 
     in_memory(short(alloc, 9, text.bytes()))
 }
 
-/// What stands above the wire of a row.
+/// What is above the wire of a row.
 pub(crate) fn short_values(
     alloc: Global,
     net: &Net,

@@ -6,7 +6,7 @@ use net_graph::{ReadBit, WriteBit};
 /// What one scan changes and compares: data bits, and select bits where it opens the way to others. Every
 /// other bit on the active path is kept, and isn't compared.
 ///
-/// Each bit stands at most once in each list. Contracts see plain lists, by `seen_plan` of
+/// Each bit is at most once in each list. Contracts see plain lists, by `seen_plan` of
 /// `specs/ScanPlans.antt`.
 #[derive(Drop)]
 pub struct ScanPlan {

@@ -5,7 +5,7 @@ use Rattle.std.specs.Prelude.{◌==◌}
 use Rattle.std.proofs.lemmas.Bool.Decides.{nat_tests}
 use Rattle.net_wave.specs.Codes.{code, code_digits}
 
--- how many numbers have at most so many digits
+-- how many numbers have at most this many digits
 abbrev count : ℕ → ℕ
 count zero = 0
 count (suc k) = 94 * (count k + 1)

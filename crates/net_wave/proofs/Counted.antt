@@ -51,7 +51,7 @@ module _ (v : Var) where
           let below : j < n = omega (arith, l, other) in
           omega (arith, seen_both (up_to f n) (f n), high below, others n (omega arith) other)
 
-  -- what stands in a node, of things that each have a node
+  -- what is in a node, of things that each have a node
   module _ (at : ℕ → ℕ) (body : ℕ → List Item) (n : ℕ) where
     abbrev pub section : ℕ → List Item
     section k = up_to (λ i. cond (at i == k) (body i) []) n

@@ -70,7 +70,7 @@ pub other_scan : (b n : ℕ) → b < 2 ^ 32 → n < 2 ^ 32 → (b ≡ n → ⊥)
     → number_digits 32 b ≡ number_digits 32 n → ⊥
 other_scan b n h g other e = other (same_number 32 b n h g e)
 
--- 2 to the power w, times so many
+-- 2 to the power w, times this many
 abbrev times : ℕ → ℕ → ℕ
 times zero b = b
 times (suc w) b = times w b + times w b

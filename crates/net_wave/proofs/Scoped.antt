@@ -83,7 +83,7 @@ left_long zero (x ∷ xs) = omega arith
 left_long (suc n) [] = omega arith
 left_long (suc n) (x ∷ xs) = omega (arith, left_long n xs)
 
--- closing all but so many
+-- closing all but this many
 inside_taken : (names scopes : Scopes) (m : ℕ) → m ≤ length names
     → drop (length names - m) (inside scopes names) ≡ inside scopes (take m names)
 inside_taken names scopes m h =
@@ -146,7 +146,7 @@ module _ (net : Net) (top : List ℕ) where
   declared : (s : Scopes) (v : Var) → s ≡ scopes_of net top v → Lead s (Declare v ∷ []) s
   declared s v e = record { found = ap (λ x. x ∷ []) e; ends = refl }
 
-  -- ---- what stands in a node
+  -- ---- what is in a node
 
   module _ (k : ℕ) where
     abbrev here : Scopes

@@ -1,4 +1,4 @@
--- What may change from one clock to the next: at the pins what stands there, on the chip what a clock between
+-- What may change from one clock to the next: at the pins what is there, on the chip what a clock between
 -- two states of the TAP controller can move (IEEE 1149.1-2013, clause 6; IEEE 1687-2014, hardware rules:
 -- capture, shift, update, reset and instruments).
 use Rattle.std.specs.Prelude.{◌≡◌, ◌<◌, ◌≤◌, ℕ, ◌+◌, ◌==◌, ◌||◌, ◌&&◌, not, Bool, true, false, codes, List}

@@ -2,7 +2,7 @@
 -- the others count from 1.
 use Rattle.std.specs.Prelude.{ℕ, zero, suc, ◌+◌, ◌-◌, ◌/◌, ◌%◌, ◌==◌, cond, List, [], ◌∷◌}
 
--- at most so many digits in base 94, the lowest first; 33 is the first printable byte. In bijective base a
+-- at most this many digits in base 94, the lowest first; 33 is the first printable byte. In bijective base a
 -- longer code begins where the shorter ones end: 0 to 93 have one digit, and 94 is 33 33
 abbrev pub code_digits : ℕ → ℕ → List ℕ
 code_digits zero n = []

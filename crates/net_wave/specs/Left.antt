@@ -81,7 +81,7 @@ text_from p first k before ps s =
 unfoldable pub left_text : Playing → List ℕ
 left_text p = text_from p p.first p.clock (before_of p) (take p.left p.player.pins) p.bench.state
 
--- the same after so many clocks more
+-- the same after this many clocks more
 unfoldable pub skipped_text : ℕ → Playing → List ℕ
 skipped_text n p =
     text_from p p.first p.clock (before_of p) (take p.left (drop n p.player.pins))

@@ -10,7 +10,7 @@ abbrev pub put_first : ℕ → List (List ℕ) → List (List ℕ)
 put_first x [] = (x ∷ []) ∷ []
 put_first x (l ∷ ls) = (x ∷ l) ∷ ls
 
--- what stands between the bytes of one value
+-- what is between the bytes of one value
 abbrev pub split : ℕ → List ℕ → List (List ℕ)
 split at [] = [] ∷ []
 split at (x ∷ xs) = cond (x == at) ([] ∷ split at xs) (put_first x (split at xs))

@@ -44,7 +44,7 @@ is_odd_at n i = (n / 2 ^ i) % 2 == 1
 abbrev pub number_digits : ℕ → ℕ → List ℕ
 number_digits width n = digits (is_odd_at n) width
 
--- so many x (120)
+-- this many x (120)
 abbrev pub unknown : ℕ → List ℕ
 unknown width = up_to (λ _. 120 ∷ []) width
 
@@ -97,7 +97,7 @@ abbrev pub drivers : Net → ℕ → ℕ → List Sig
 drivers net i p =
     get_or (get_or (map (λ inst. map (λ port. port.bits.items) inst.ins.items) net.insts.items) i []) p []
 
--- what stands at a position of an input
+-- what is at a position of an input
 abbrev pub input_bit : Chip Counts → State Counts → ℕ → ℕ → ℕ → Bool
 input_bit chip s i p k = signal (outputs chip.machines s.insts) s.holds (get_or (drivers chip.net i p) k Zero)
 

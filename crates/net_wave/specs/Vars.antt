@@ -16,7 +16,7 @@ use Rattle.net_wave.specs.declared.var.Var.TheVariants.{Word}
 use Rattle.net_wave.specs.declared.var.WaveKind.{WaveKind}
 use Rattle.net_wave.specs.declared.var.WaveKind.TheVariants.{Pins, State, All}
 
--- f 0, f 1 and so on, of so many numbers, one after the other
+-- f 0, f 1 and so on, of this many numbers, one after the other
 abbrev pub up_to : {T : Type 0} → (ℕ → List T) → ℕ → List T
 up_to f zero = []
 up_to f (suc n) = up_to f n ++ f n
@@ -43,7 +43,7 @@ register_node net r = get_or (map (λ thing. thing.node) net.things.items) (thin
 abbrev pub mux_node : Net → ℕ → ℕ
 mux_node net m = get_or (map (λ mux. mux.node) net.muxes.items) m 0
 
--- how deep a node stands: 0 is the top's depth, and that of a node that isn't there
+-- how deep a node is: 0 is the top's depth, and that of a node that isn't there
 abbrev pub depth : Net → ℕ → ℕ
 depth net k = get_or (map (λ node. length node.path.items) net.nodes.items) k 0
 
@@ -60,7 +60,7 @@ words_of models i = get_or (map (λ m. m.words) models) i []
 abbrev pub word_count : List SeenModel → ℕ → ℕ
 word_count models i = length (words_of models i)
 
--- ---- scopes and variables, in the order of the text; TCK stands before them
+-- ---- scopes and variables, in the order of the text; TCK comes before them
 
 abbrev pub pin_items : List Item
 pin_items =
@@ -91,7 +91,7 @@ inst_items net models i =
     ++ (up_to (output_item i) (output_count net i)
     ++ (Open Words ∷ (up_to (word_item i) (word_count models i) ++ Close ∷ [])))
 
--- an instrument, a register or a multiplexer, if it stands in this node
+-- an instrument, a register or a multiplexer, if it is in this node
 abbrev pub inst_item : Net → List SeenModel → ℕ → ℕ → List Item
 inst_item net models k i = cond (inst_node net i == k) (inst_items net models i) []
 

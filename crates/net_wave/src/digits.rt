@@ -53,7 +53,7 @@ pub(crate) fn add_number(number: u64, width: u32, into: &mut List<u8>) -> Result
     Ok(())
 }
 
-/// Adds so many x.
+/// Adds this many x.
 pub(crate) fn add_unknown(width: u32, into: &mut List<u8>) -> Result<(), OutOfMemory>
     ensures { OnOk result (into.new.items ≡ into.old.items ++ values.unknown width) }
 {
@@ -136,7 +136,7 @@ fn trimmed(digits: &[u8]) -> &[u8]
     rest
 }
 
-/// Adds a value, as it stands before the code of its variable (IEEE 1364-2005, 18.2.1).
+/// Adds a value, as it comes before the code of its variable (IEEE 1364-2005, 18.2.1).
 pub(crate) fn add_value_text(digits: &[u8], piece: &mut SureSink) -> Result<(), OutOfMemory>
     ensures { OnOk result (piece.new ≡ piece.old ++ moments.digits_text digits.now) }
 {

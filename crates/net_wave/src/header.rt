@@ -43,7 +43,7 @@ fn add_range(range: Option<Range>, piece: &mut SureSink) -> Result<(), OutOfMemo
     }
 }
 
-/// Adds what stands before the code of a variable.
+/// Adds what comes before the code of a variable.
 #[tactic(auto, unfolding(ij_io::specs::Words::words_text))]
 fn add_front(pin: bool, width: u32, piece: &mut SureSink) -> Result<(), OutOfMemory>
     ensures { OnOk result (piece.new ≡ piece.old ++ header.front_text pin width) }

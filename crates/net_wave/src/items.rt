@@ -69,7 +69,7 @@ fn add_register(kind: WaveKind, reg: u32, items: &mut List<Item>) -> Result<(), 
     add_all(&[Item::Declare(Var::OnPath(reg)), Item::Close], items)
 }
 
-/// The node that a register stands in.
+/// The node that a register is in.
 fn register_node(net: &Net, reg: u32) -> u32
     requires well_formed { IsNet net.now }
     requires there { reg < length net.now.regs.items }
@@ -79,7 +79,7 @@ fn register_node(net: &Net, reg: u32) -> u32
     net.things.get(thing as usize).node
 }
 
-/// Adds a register, if it stands in this node.
+/// Adds a register, if it is in this node.
 fn add_register_in(
     kind: WaveKind,
     net: &Net,
@@ -115,7 +115,7 @@ fn add_registers(
     Ok(())
 }
 
-/// Adds a multiplexer, if it stands in this node.
+/// Adds a multiplexer, if it is in this node.
 fn add_mux_in(net: &Net, node: u32, mux: u32, items: &mut List<Item>) -> Result<(), OutOfMemory>
     requires there { mux < length net.now.muxes.items }
     ensures { OnOk result (items.new.items ≡ items.old.items ++ vars.mux_item net.now node mux) }
@@ -154,7 +154,7 @@ fn add_muxes(net: &Net, node: u32, items: &mut List<Item>) -> Result<(), OutOfMe
     Ok(())
 }
 
-/// Adds so many inputs of an instrument.
+/// Adds this many inputs of an instrument.
 #[tactic(auto, using(crate::proofs::Listing::up_to_next))]
 fn add_inputs(inst: u32, count: u32, items: &mut List<Item>) -> Result<(), OutOfMemory>
     ensures { OnOk result (items.new.items ≡ items.old.items ++ vars.up_to (vars.input_item inst) count) }
@@ -165,7 +165,7 @@ fn add_inputs(inst: u32, count: u32, items: &mut List<Item>) -> Result<(), OutOf
     Ok(())
 }
 
-/// Adds so many outputs of an instrument.
+/// Adds this many outputs of an instrument.
 #[tactic(auto, using(crate::proofs::Listing::up_to_next))]
 fn add_outputs(inst: u32, count: u32, items: &mut List<Item>) -> Result<(), OutOfMemory>
     ensures { OnOk result (items.new.items ≡ items.old.items ++ vars.up_to (vars.output_item inst) count) }
@@ -176,7 +176,7 @@ fn add_outputs(inst: u32, count: u32, items: &mut List<Item>) -> Result<(), OutO
     Ok(())
 }
 
-/// Adds so many words of an instrument.
+/// Adds this many words of an instrument.
 #[tactic(auto, using(crate::proofs::Listing::up_to_next))]
 fn add_words(inst: u32, count: u32, items: &mut List<Item>) -> Result<(), OutOfMemory>
     ensures { OnOk result (items.new.items ≡ items.old.items ++ vars.up_to (vars.word_item inst) count) }
@@ -290,7 +290,7 @@ fn add_opening(node: u32, items: &mut List<Item>) -> Result<(), OutOfMemory>
     }
 }
 
-/// How deep a node stands, 0 for the top and for one that isn't there.
+/// How deep a node is, 0 for the top and for one that isn't there.
 fn depth(net: &Net, node: u32) -> u32
     requires { IsNet net.now }
     ensures depth { result ≡ vars.depth net.now node }
@@ -302,7 +302,7 @@ fn depth(net: &Net, node: u32) -> u32
     }
 }
 
-/// Closes so many scopes.
+/// Closes this many scopes.
 #[tactic(auto, using(crate::proofs::Listing::up_to_next))]
 fn add_closes(count: u32, items: &mut List<Item>) -> Result<(), OutOfMemory>
     ensures { OnOk result (items.new.items ≡ items.old.items ++ vars.up_to vars.close_item count) }

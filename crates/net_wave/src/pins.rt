@@ -135,7 +135,7 @@ fn add_position(first: bool, before: u32, now: u32, piece: &mut SureSink) -> Res
     Ok(())
 }
 
-/// Adds the fall of TCK, and what stands before the instruction.
+/// Adds the fall of TCK, and what comes before the instruction.
 pub(crate) fn add_levels(
     first: bool,
     last: &Shown,
@@ -164,7 +164,7 @@ pub(crate) fn add_levels(
     Ok(())
 }
 
-/// Adds what stands after the instruction.
+/// Adds what comes after the instruction.
 pub(crate) fn add_scan(
     first: bool,
     last: &Shown,

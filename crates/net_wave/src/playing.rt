@@ -43,7 +43,7 @@ const REST: Pins = Pins {
     bit: 0,
 };
 
-/// What stands at the pins before the first clock.
+/// What is at the pins before the first clock.
 const NOTHING: Shown = Shown {
     pins: REST,
     tdo: false,
@@ -174,7 +174,7 @@ impl<'a> Playing<'a> {
         })
     }
 
-    /// Plays so many clocks, unless the play ends before, and writes nothing.
+    /// Plays this many clocks, unless the play ends before, and writes nothing.
     pub(crate) fn skip(&mut self, clocks: u64)
         requires playing { IsPlaying self.old }
         requires first { self.old.first ≡ true }

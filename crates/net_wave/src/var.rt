@@ -31,7 +31,7 @@ pub(crate) enum Var {
     Tms,
     /// TDI.
     Tdi,
-    /// TDO, as it stands during the clock.
+    /// TDO, as it is during the clock.
     Tdo,
     /// What TDO is compared with; x where it isn't compared.
     Expect,
@@ -85,7 +85,7 @@ pub(crate) enum Item {
     Close,
 }
 
-/// Whether a variable is a pin, or says what stands there.
+/// Whether a variable is a pin, or says what is there.
 pub(crate) fn is_pin(var: Var) -> bool
     ensures { result ≡ header.is_pin var }
 {

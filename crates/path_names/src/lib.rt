@@ -1,4 +1,4 @@
-//! The written paths of what stands in a network: instances, registers, data ports, aliases and scan
+//! The written paths of what is in a network: instances, registers, data ports, aliases and scan
 //! multiplexers.
 #![tactic(auto)]
 

@@ -82,7 +82,7 @@ mutual
       (mux_numbers items (around ++ one_branch m k))
       ∙ ap (λ z. muxes_in items ++ z) (mux_row_numbers rest around m (suc k))
 
--- where each number stands once, the place found is the item's
+-- where each number is once, the place found is the item's
 find_is : (f : Point → List ℕ) (n k : ℕ) (item : Point) (xs : List Placed) (x : Placed) → f item ≡ k ∷ []
     → IsRoute n (numbers f xs) → Among x xs → x.item ≡ item → find_place xs item ≡ x.place
 find_is f n k item [] x s h a e = absurd a
@@ -105,7 +105,7 @@ find_is f n k item (y ∷ ys) x s h a e =
         ⊎_elim (λ q. absurd (true≢false
         (sym (ap (λ z. same_point z item) (ap (λ z. z.item) q ∙ e) ∙ same_self item) ∙ t))) rest a
 
--- a branch of a place, but for those around: its mux stands before it
+-- a branch of a place, but for those around: its mux comes before it
 abbrev IsInside : List Placed → List Branch → Branch → Type 0
 IsInside xs place b = (y : Placed) × Among y xs × (y.item ≡ FromMux b.mux)
     × (rest : List Branch) × (place ≡ y.place ++ b ∷ rest)
@@ -242,7 +242,7 @@ module _ (net : Net) (form : Items) (d : Describes net form) where
       (among-flat (λ (z : Placed). mux_number z.item) x m (placed [] form) a
       (subst (λ z. Among m (mux_number z)) (sym e) (inl refl)))
 
-  -- each branch of a place is a row of a mux that stands before it
+  -- each branch of a place is a row of a mux that comes before it
   pub record IsAround (place : List Branch) (b : Branch) : Type 0 where
     pub there : b.mux < length net.muxes.items
     pub row : b.row < length (rows_of net b.mux)

@@ -34,7 +34,7 @@ ends_at (y ∷ z ∷ rs) r h =
     let e : length (y ∷ z ∷ rs) - 1 ≡ suc (length (z ∷ rs) - 1) = omega arith in
     ap (λ k. get_or (y ∷ z ∷ rs) k 0 == r) e ∙ ends_at (z ∷ rs) r (omega arith)
 
--- what stands before the last element
+-- what comes before the last element
 before_last : (rs : List ℕ) (r : ℕ) → ends_in rs r ≡ true → (front : List ℕ) × (rs ≡ front ++ r ∷ [])
 before_last [] r e = absurd (false≢true e)
 before_last (x ∷ []) r e = ([], ap (λ z. z ∷ []) (eqb-true x r e))

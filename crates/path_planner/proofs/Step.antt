@@ -113,7 +113,7 @@ module _ (net : Net) (form : Items) (n : IsNet net) (d : Describes net form) (w 
       subst (λ k. s.reg < k) (length-map net.regs.items (λ reg. reg.width))
       (held_reg (widths net) s (select_held m s l a))
 
-  -- a select bit stands outside its mux
+  -- a select bit is outside its mux
   pub select_outer : (m : ℕ) (s : BitId) (c : Branch)
       → m < length net.muxes.items → Among s (selects_of net m)
       → Among c (place_of form (FromReg s.reg)) → Among c (place_of form (FromMux m))

@@ -1,15 +1,15 @@
-// Where a register stands on a path.
+// Where a register is on a path.
 ghost use Rattle.std.specs.Prelude.{◌≡◌, true, is_some, IsTrue};
 ghost use Rattle.net_graph.specs.Path.{is_in};
 
-/// Whether a register stands at a place of a path.
+/// Whether a register is at a place of a path.
 fn is_at(path: &[u32], i: usize, reg: u32) -> bool
     ensures { IsTrue result → is_in path.now reg ≡ true }
 {
     i < path.len() && path[i] == reg
 }
 
-/// Where a register stands on a path.
+/// Where a register is on a path.
 fn place_on(path: &[u32], reg: u32) -> Option<usize>
     ensures { is_some result ≡ is_in path.now reg }
 {

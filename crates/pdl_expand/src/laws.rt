@@ -7,7 +7,7 @@ pub fn paths_differ()
     ensures { PathsDiffer }
 {}
 
-/// A procedure has at most 100,000 steps: at most so many commands are executed, and each gives one step at
+/// A procedure has at most 100,000 steps: at most this many commands are executed, and each gives one step at
 /// most, an `iCall` in a merge the end of its branch.
 pub fn steps_are_few()
     ensures { StepsAreFew }

@@ -37,7 +37,7 @@ pub(crate) fn write_bits(holds: &mut Holds, writes: &[WriteBit])
     }
 }
 
-/// So many clocks in Run-Test/Idle, for every instrument.
+/// This many clocks in Run-Test/Idle, for every instrument.
 pub(crate) fn run_times(models: &List<Model>, runners: &mut [Runner], cycles: u32)
     requires models { All (λ m. IsModel (seen_model m)) models.now.items }
     requires count { length runners.old ≡ length models.now.items }

@@ -104,7 +104,7 @@ impl<'a> DataState<'a> {
         );
     }
 
-    /// So many run events for every instrument.
+    /// This many run events for every instrument.
     pub fn run(&mut self, cycles: u32)
         ensures others { self.new ≡ record self.old { insts = self.new.insts } }
         ensures state { (reads : Reads) → with_reads self.new reads ≡ run_cycles count_log self.old.net

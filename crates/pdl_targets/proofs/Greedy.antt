@@ -89,7 +89,7 @@ module _ (places : Places) where
 
   -- ---- what a round leaves
 
-  -- one that a register waits for: it stands before, the round has it, and the two clash
+  -- one that a register waits for: it comes before, the round has it, and the two clash
   abbrev Waits : List ℕ → List ℕ → ℕ → Type 0
   Waits front taken q = (p : ℕ) × (is_in front p ≡ true) × (is_in taken p ≡ true) × (clash places p q ≡ true)
 

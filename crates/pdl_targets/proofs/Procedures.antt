@@ -15,7 +15,7 @@ use Rattle.net_graph.specs.Signals.{capture_signal}
 use Rattle.net_graph.specs.Steps.{IsDataBit, IsReadable, IsGroup, IsStep}
 use Rattle.net_graph.specs.Path.{is_in}
 use Rattle.pdl_parser.specs.Values.{AValue, ANumber, AWord, AnArgument}
-use Rattle.pdl_expand.specs.Values.{ADeed, Writes, Reads, Applies, Runs, Resets, BeginsMerge, EndsBranch}
+use Rattle.pdl_expand.specs.Values.{AnAction, Writes, Reads, Applies, Runs, Resets, BeginsMerge, EndsBranch}
 use Rattle.pdl_expand.specs.Values.{EndsMerge, AStep}
 use Rattle.pdl_targets.specs.Targets.{AFault, Found, Is, Fails, write_bits, read_bits}
 use Rattle.pdl_targets.specs.Rounds.{Places, rounds, part_on, groups}
@@ -113,7 +113,7 @@ module _ (net : Net) (places : Places) (N : Type 0) (given : N → IsNet net) wh
   run_values at q h (AWord name) = tt
   run_values at q h (AnArgument name) = tt
 
-  after : (at : Place) (node : ℕ) (q : Queue) → Good q → (d : ADeed)
+  after : (at : Place) (node : ℕ) (q : Queue) → Good q → (d : AnAction)
       → OfFound GoodAnswer (feed net places q (record { at = at; node = node; what = d }))
   after at node q h (Writes target value) =
       then_with (λ ws. N → All (λ w. IsDataBit net w.bit) ws) GoodAnswer

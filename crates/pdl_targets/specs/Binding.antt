@@ -8,7 +8,7 @@ use Rattle.net_graph.specs.declared.step.WriteBit.{WriteBit}
 use Rattle.net_graph.specs.declared.step.ReadBit.{ReadBit}
 use Rattle.net_graph.specs.SeenSteps.{SeenGroup, SeenStep, Apply, Run, Reset}
 use Rattle.pdl_parser.specs.Values.{AValue, ANumber, AWord, AnArgument}
-use Rattle.pdl_expand.specs.Values.{ADeed, Writes, Reads, Applies, Runs, Resets, BeginsMerge, EndsBranch}
+use Rattle.pdl_expand.specs.Values.{AnAction, Writes, Reads, Applies, Runs, Resets, BeginsMerge, EndsBranch}
 use Rattle.pdl_expand.specs.Values.{EndsMerge, AStep}
 use Rattle.pdl_targets.specs.Targets.{AFault, IsBadCount, IsLimit, IsUnapplied, Found, Is, Fails, found_then}
 use Rattle.pdl_targets.specs.Targets.{write_bits, read_bits}
@@ -96,19 +96,19 @@ nothing_done q = Is (record { queue = q; step = None })
 
 -- a step; the marks of a merge aren't handed in
 abbrev pub feed : Net → Places → Queue → AStep → Found Answer
-feed net places q s = deed s.what
+feed net places q s = action s.what
   where
-    deed : ADeed → Found Answer
-    deed (Writes target value) =
+    action : AnAction → Found Answer
+    action (Writes target value) =
         found_then (write_bits net s.at s.node target value) (λ ws. nothing_done (with_writes q s.at ws))
-    deed (Reads target value) = found_then (read_bits net s.at s.node (q.asked + 1) target value)
+    action (Reads target value) = found_then (read_bits net s.at s.node (q.asked + 1) target value)
         (λ rs. nothing_done (with_reads q s.at rs))
-    deed Applies = apply s.at q (groups places q.writes q.reads q.registers)
-    deed (Runs value) = run_value s.at q value
-    deed Resets = Is (record { queue = q; step = Some Reset })
-    deed BeginsMerge = nothing_done q
-    deed EndsBranch = nothing_done q
-    deed EndsMerge = nothing_done q
+    action Applies = apply s.at q (groups places q.writes q.reads q.registers)
+    action (Runs value) = run_value s.at q value
+    action Resets = Is (record { queue = q; step = Some Reset })
+    action BeginsMerge = nothing_done q
+    action EndsBranch = nothing_done q
+    action EndsMerge = nothing_done q
 
 -- no iWrite or iRead is left without an iApply
 abbrev pub finish : Queue → Option AFault

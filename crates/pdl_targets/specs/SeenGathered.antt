@@ -34,7 +34,7 @@ pub record IsKept (net : Net) (g : Gathered) : Type 0 where
   pub reads : AreNumbered net g.read_marks (bits_compared g.reads.items)
   pub registers : AreNumbered net g.register_marks (first_bits g.registers.items)
 
--- a queue after an iApply of so many rounds
+-- a queue after an iApply of this many rounds
 abbrev pub applied_queue : Queue → ℕ → Queue
 applied_queue q n =
     record q { writes = []; reads = []; registers = []; pending = None; rounds = q.rounds + n }

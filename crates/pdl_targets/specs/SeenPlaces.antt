@@ -1,4 +1,4 @@
--- Where registers stand in a nested form.
+-- Where registers are in a nested form.
 use Rattle.net_graph.specs.declared.net.Point.TheVariants.{Reg}
 use Rattle.net_tree.specs.Form.{Items}
 use Rattle.net_tree.specs.Places.{place_of}

@@ -22,7 +22,7 @@ use ij_bits::OutOfMemory;
 use ij_text::Place;
 use net_graph::{BitStep, Net};
 use net_tree::Tree;
-use pdl_expand::{Deed, Step};
+use pdl_expand::{Action, Step};
 use pdl_parser::{Target, Value};
 use std::alloc::Global;
 use std::marker::Model;
@@ -102,14 +102,16 @@ fn bind(
     let at = step.at;
     let node = step.node;
     match &step.what {
-        Deed::Write { target, value } => write(
+        Action::Write { target, value } => write(
             alloc, net, index, gathered, at, node, target, value,
         ),
-        Deed::Read { target, value } => read(alloc, net, index, gathered, at, node, target, value),
-        Deed::Apply => gathered.apply(alloc, at, tree),
-        Deed::RunLoop(value) => gathered.run_value(at, value),
-        Deed::Reset => Ok(Some(BitStep::Reset)),
-        Deed::MergeBegin | Deed::BranchEnd | Deed::MergeEnd => Ok(None),
+        Action::Read { target, value } => read(
+            alloc, net, index, gathered, at, node, target, value,
+        ),
+        Action::Apply => gathered.apply(alloc, at, tree),
+        Action::RunLoop(value) => gathered.run_value(at, value),
+        Action::Reset => Ok(Some(BitStep::Reset)),
+        Action::MergeBegin | Action::BranchEnd | Action::MergeEnd => Ok(None),
     }
 }
 

@@ -22,7 +22,7 @@ pub enum TargetFault {
     NoValue {
         at: Place,
     },
-    /// A 1 or an x of the value stands at the target's width or above.
+    /// A 1 or an x of the value is at the target's width or above.
     ValueWide {
         at: Place,
     },

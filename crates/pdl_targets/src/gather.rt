@@ -33,11 +33,11 @@ pub(crate) struct Gathered {
     pub reads: List<ReadBit>,
     /// The registers of both, in the order of their first mention.
     pub registers: List<u32>,
-    /// Where the write of a bit stands.
+    /// Where the write of a bit is.
     pub write_marks: BitMarks,
-    /// Where the read of a bit stands.
+    /// Where the read of a bit is.
     pub read_marks: BitMarks,
-    /// Where a register stands.
+    /// Where a register is.
     pub register_marks: BitMarks,
     /// In which rounds of the last iApply the rows around its registers are.
     pub rows: RowSets,
@@ -83,7 +83,7 @@ fn first_of(first: Option<Place>, at: Place) -> Option<Place>
     }
 }
 
-/// Makes room for so many more; fewer than 2^32 are there then.
+/// Makes room for this many more; fewer than 2^32 are there then.
 fn room_for<T>(list: &mut List<T>, more: usize) -> Result<(), OutOfMemory>
     ensures items { list.new.items ≡ list.old.items }
     ensures room { OnOk result (more ≤ list.new.spare) }
@@ -152,7 +152,7 @@ impl Gathered {
         Ok(())
     }
 
-    /// Empties the queue, whose groups are so many.
+    /// Empties the queue, whose groups are this many.
     fn applied(&mut self, count: u32)
         requires { self.old.rounds + count < 2 ^ 32 }
         ensures queue { seen_gathered self.new ≡ applied_queue (seen_gathered self.old) count }

@@ -49,7 +49,7 @@ fn note_round(marks: &BitMarks, hints: &mut [Hint], round: usize, registers: &[u
     }
 }
 
-/// The hints for so many registers, which stand in these rounds.
+/// The hints for this many registers, which are in these rounds.
 fn hints_of<'a>(
     alloc: Global,
     marks: &'a BitMarks,
@@ -85,7 +85,7 @@ fn is_in(round: &[u32], register: u32) -> bool
     false
 }
 
-/// Whether a register stands at a place of a round.
+/// Whether a register is at a place of a round.
 fn is_at(round: &[u32], place: usize, register: u32) -> bool
     ensures { result ≡ true → is_in round.now register ≡ true }
 {

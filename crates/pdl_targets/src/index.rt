@@ -19,12 +19,12 @@ pub(crate) struct Index {
     pub selects: BitMarks,
     /// Which register bits capture a signal.
     pub captors: Captors,
-    /// The keys of the things in their order, a hint where a thing stands: it is looked at before it is
+    /// The keys of the things in their order, a hint where a thing is: it is looked at before it is
     /// believed.
     pub things: Names,
 }
 
-/// What a thing is looked up by: its name and the cell that it stands in.
+/// What a thing is looked up by: its name and the cell that it is in.
 pub(crate) fn thing_key(alloc: Global, node: u32, name: &[u8]) -> Result<Name, OutOfMemory>
     ensures { IfOk result (λ key. take (length name.now) key.items ≡ name.now) }
 {

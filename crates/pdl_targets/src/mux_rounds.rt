@@ -11,7 +11,7 @@ use ij_bits::OutOfMemory;
 use std::alloc::Global;
 use std::marker::Model;
 
-/// Makes room for so many rows.
+/// Makes room for this many rows.
 fn grow(alloc: Global, rows: &mut Vec<RoundSet>, len: usize) -> Result<(), OutOfMemory>
     ensures long { OnOk result (len ≤ vec_len rows.new) }
     ensures same { (row : ℕ) → row_at rows.new.items row ≡ row_at rows.old.items row }

@@ -13,7 +13,7 @@ use net_graph::Branch;
 use std::alloc::Global;
 use std::marker::Model;
 
-/// Makes room for so many muxes.
+/// Makes room for this many muxes.
 fn grow(alloc: Global, muxes: &mut Vec<MuxRounds>, len: usize) -> Result<(), OutOfMemory>
     ensures long { OnOk result (len ≤ vec_len muxes.new) }
     ensures same { (mux : ℕ) → mux_at muxes.new.items mux ≡ mux_at muxes.old.items mux }
@@ -133,8 +133,8 @@ impl RowSets {
         word
     }
 
-    /// The first of so many rounds that has no row that one of some rows excludes, or their number. Takes no
-    /// memory.
+    /// The first of this many rounds that has no row that one of some rows excludes, or their number. Takes
+    /// no memory.
     pub fn first_open_round(&self, branches: &[Branch], rounds: u32) -> u32
         ensures at_most { result ≤ rounds }
         ensures before { (j : ℕ) → j < result → list_any (λ b. excluded_at self.now b j) branches.now ≡ true }

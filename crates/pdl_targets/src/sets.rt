@@ -24,7 +24,7 @@ impl Model for RoundSet {
     ghost view = { λ s. record { stamp = s.stamp; words = s.words.items } };
 }
 
-/// Makes room for so many words.
+/// Makes room for this many words.
 fn grow(words: &mut Vec<u64>, len: usize) -> Result<(), OutOfMemory>
     ensures long { OnOk result (len ≤ vec_len words.new) }
     ensures same { (w : ℕ) → slice_index_or words.new.items w 0 ≡ slice_index_or words.old.items w 0 }

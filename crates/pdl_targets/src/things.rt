@@ -50,7 +50,7 @@ fn thing_in<'a>(things: &'a [Thing], node: u32, name: &[u8]) -> Option<&'a Thing
     None
 }
 
-/// Whether a thing stands in a cell and has a name.
+/// Whether a thing is in a cell and has a name.
 fn is_named(thing: &Thing, node: u32, name: &[u8]) -> bool
     ensures { result ≡ (thing.now.node == node && bytes_eq thing.now.name.items name.now) }
 {

@@ -7,6 +7,6 @@ abbrev pub lowest_digits : ℕ → ℕ → List ℕ
 lowest_digits number zero = []
 lowest_digits number (suc n) = hex_code (number / 2 ^ (4 * n) % 16) ∷ lowest_digits number n
 
--- as many digits as so many bits take
+-- as many digits as this many bits take
 abbrev pub hex_number : ℕ → ℕ → List ℕ
 hex_number width number = lowest_digits number ((width + 3) / 4)

@@ -65,7 +65,7 @@ impl<'a> Model for Retargeter<'a> {
     }) × HasScanRoom r.net.now r.buffers };
 }
 
-/// Writes a run of so many cycles.
+/// Writes a run of this many cycles.
 fn put_run<K: Sink>(cycles: u32, k: &mut K) -> Result<(), StoreFault>
     requires { cycles ≤ 999999999 }
     ensures whole { OnOk result (Adds (K.taken k.old) (K.taken k.new) (text_of (RunTest cycles))) }

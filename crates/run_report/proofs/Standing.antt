@@ -205,7 +205,7 @@ module _ (p : Procedure) (before after : Cursor) (is : IsCursor p.net p.form p.s
     pub read_found : (scan ≤ after.scans) ⊎ (after.steps.steps ≡ []) → read ≡ names scan bit
     read_found there = found ∙ reached there ∙ sym (are.named scan bit)
 
--- a cursor at the begin stands before any scan
+-- a cursor at the begin comes before any scan
 pub first_zero : {E : Type 0} (r : Result Cursor E) (scan : ℕ)
     → IfOk r (λ c. c.first ≡ 0) → IfOk r (λ c. c.first ≤ scan)
 first_zero (Ok c) scan e = omega (arith, e)

@@ -1,4 +1,4 @@
--- A procedure that is asked for its reads: it can be retargeted, and a cursor stands in it, if there is one.
+-- A procedure that is asked for its reads: it can be retargeted, and a cursor is in it, if there is one.
 use Rattle.std.specs.Prelude.{◌<◌, ◌^◌, ℕ, List, length, map, Option, IfSome}
 use Rattle.merge_order.specs.BitSteps.{bit_steps}
 use Rattle.ij_text.specs.Numbering.{AreDistinct}

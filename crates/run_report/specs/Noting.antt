@@ -14,7 +14,7 @@ use Rattle.run_report.specs.Places.{plans_places, rounds_places, step_places, sc
 use Rattle.run_report.specs.Places.{scans_after_step}
 use Rattle.run_report.specs.declared.place.ReadPlace.{ReadPlace}
 
--- where a read stands on a path, by the widths of its registers
+-- where a read is on a path, by the widths of its registers
 abbrev pub place_on : Net → List ℕ → ℕ → ReadBit → ReadPlace
 place_on net path scan r = record { scan = scan; bit = position path (zero_holds net) r.bit; read = r }
 
@@ -23,7 +23,7 @@ module _ (net : Net) (form : Items) (holds : Holds) (g : SeenGroup) where
   NotesGroup scans old new = (plans : List SeenGroup) → ArePlansOf net form holds g plans
       → new ≡ old ++ plans_places net holds scans plans
 
-  -- so many scans
+  -- this many scans
   abbrev pub ScansGroup : ℕ → Type 0
   ScansGroup n = (plans : List SeenGroup) → ArePlansOf net form holds g plans → n ≡ length plans
 

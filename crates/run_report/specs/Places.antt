@@ -15,14 +15,14 @@ use Rattle.headline.specs.Retargeting.{PlannedGroup, PlannedStep, Applies, Runs,
 use Rattle.headline.specs.Scans.{holds_after}
 use Rattle.run_report.specs.declared.place.ReadPlace.{ReadPlace}
 
--- where a read stands in a scan: at its bit's position on the active path that the scan goes through
+-- where a read is in a scan: at its bit's position on the active path that the scan goes through
 abbrev pub place_in : Net → Holds → ℕ → ReadBit → ReadPlace
 place_in net holds scan r = record { scan = scan; bit = position (route_of net holds) holds r.bit; read = r }
 
 abbrev pub scan_places : Net → Holds → ℕ → List ReadBit → List ReadPlace
 scan_places net holds scan reads = map (place_in net holds scan) reads
 
--- a scan for each plan, after so many others
+-- a scan for each plan, after this many others
 abbrev pub plans_places : Net → Holds → ℕ → List SeenGroup → List ReadPlace
 plans_places net holds scans [] = []
 plans_places net holds scans (p ∷ ps) =

@@ -1,4 +1,4 @@
--- A procedure on a network, by its bit steps, and the reads that stand at each scan and position.
+-- A procedure on a network, by its bit steps, and the reads that are at each scan and position.
 use Rattle.std.specs.Prelude.{◌≡◌, ℕ, List, None, All}
 use Rattle.bench_report.specs.Report.{Names}
 use Rattle.merge_order.specs.BitSteps.{BitStepsOf}

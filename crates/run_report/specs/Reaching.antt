@@ -40,7 +40,7 @@ StandsIn net form steps c =
     (all : List PlannedStep) → AreStepsOf net form (start_holds net) steps all
     → Stands net form c.steps.steps c.holds c.first c.scans c.places.items all
 
--- where one stands in a procedure, the other does
+-- where one is in a procedure, the other does
 abbrev pub StandsOn : Net → Items → Cursor → Cursor → Type 0
 StandsOn net form old new = (steps : List SeenStep)
     → StandsIn net form steps old → StandsIn net form steps new

@@ -14,7 +14,7 @@ use Rattle.run_report.specs.Places.{places, read_at}
 use Rattle.retargeter.specs.Plans.{AreStepsOf}
 use Rattle.svf_writer.specs.SeenCommands.{SeenCommand}
 
--- the iRead of a compare is that which stands at its place, whatever plans of the bit steps were found
+-- the iRead of a compare is that which is at its place, whatever plans of the bit steps were found
 pub record IsRunReport (net : Net) (form : Items) (device : Device) (models : List SeenModel)
     (steps : List SeenStep) (commands : List SeenCommand) (report : List ℕ) : Type 0 where
   pub plans : List PlannedStep

@@ -55,7 +55,7 @@ impl<'a> Model for ReadPlaces<'a> {
     ghost invariant = { λ r. AreAsked r.procs.now r.net.now r.tree.now r.name.now r.cursor };
 }
 
-/// A cursor that stands at the scan or before it: the one that there is, or a new one.
+/// A cursor that is at the scan or before it: the one that there is, or a new one.
 fn cursor_for<'a>(
     alloc: Global,
     procs: &'a [Proc],

@@ -22,7 +22,7 @@ pub(crate) struct ReadPlace {
 }
 
 impl ReadPlace {
-    /// Whether it stands at this position of this scan.
+    /// Whether it is at this position of this scan.
     fn is_at(&self, scan: u32, bit: u32) -> bool
         ensures { result ≡ ((self.now.scan == scan) && (self.now.bit == bit)) }
     {

@@ -25,7 +25,7 @@ use std::alloc::Global;
 use svf_writer::Commands;
 
 /// Plays commands from power-up on a device with a scan network and its instruments, and prints the report of
-/// the play, in which each compare that differs names the iRead of a procedure that stands at its scan and
+/// the play, in which each compare that differs names the iRead of a procedure that is at its scan and
 /// position (Serial Vector Format, revision E; IEEE 1687-2014, PDL level 0). `models` has a model for each
 /// instrument, in the network's order. Answers how many compares differ.
 ///

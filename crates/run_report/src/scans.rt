@@ -49,7 +49,7 @@ fn note_plan(
     note_reads(places, net, path, scan, reads)
 }
 
-/// Notes the reads of plans that are scanned one after the other, after so many scans.
+/// Notes the reads of plans that are scanned one after the other, after this many scans.
 fn note_plans(
     net: &Net,
     tree: &Tree,
@@ -79,7 +79,7 @@ fn note_plans(
     Ok(())
 }
 
-/// Notes the reads of a group after so many scans; answers how many scans it has.
+/// Notes the reads of a group after this many scans; answers how many scans it has.
 fn note_group(
     alloc: Global,
     net: &Net,
@@ -108,7 +108,7 @@ fn note_group(
     Ok(plans.len() as u32)
 }
 
-/// Notes the reads of the rounds of an iApply after so many scans; answers how many scans there are then.
+/// Notes the reads of the rounds of an iApply after this many scans; answers how many scans there are then.
 fn note_rounds(
     alloc: Global,
     net: &Net,
@@ -140,7 +140,7 @@ fn note_rounds(
     Ok(now)
 }
 
-/// Notes the reads of a bit step after so many scans; answers how many scans there are then. A reset loads
+/// Notes the reads of a bit step after this many scans; answers how many scans there are then. A reset loads
 /// the instruction in one.
 pub(crate) fn note_step(
     alloc: Global,

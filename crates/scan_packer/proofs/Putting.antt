@@ -37,7 +37,7 @@ place_within (r ∷ rs) s b c h =
       length-append (bits_at s r) (chain rs s),
     ))) (eqb_tells r b.reg)
 
--- a bit stands so far after the first one of its register
+-- a bit is so far after the first one of its register
 pub after_start : (p : List ℕ) (s : Holds) (b : BitId) → Contains p b.reg
     → position p s b ≡ position p s (record { reg = b.reg; pos = 0 }) + b.pos
 after_start [] s b c = absurd (omega (arith, c.1))

@@ -85,7 +85,7 @@ module _ (holds : Holds) where
       (sym (length-bits_from r 0 (length (bits_at holds r))))
       ∙ get_or-append-add (first_bits r) (bits_on holds rs) i d
 
-  -- a bit of the path stands at its place
+  -- a bit of the path is at its place
   pub place_at : (p : List ℕ) (b d : BitId) → StandsOn holds p b
       → get_or (bits_on holds p) (position p holds b) d ≡ b
   place_at [] b d s = absurd s.on
@@ -121,7 +121,7 @@ module _ (holds : Holds) where
       ≡ b = ap (λ m. get_or (bits_on holds (r ∷ rs)) m d) e ∙ after_first r rs j d in
       subst (λ x. Here (r ∷ rs) x i) (sym is) (record { on = inr k.0.on; there = k.0.there }, at)
 
-  -- and at each place stands a bit of the path
+  -- and at each place is a bit of the path
   pub at_place : (n : ℕ) (p : List ℕ) (i : ℕ) (d : BitId) → IsRoute n p → i < length (chain p holds)
       → Here p (get_or (bits_on holds p) i d) i
   at_place n [] i d h l = absurd (omega (arith, l))

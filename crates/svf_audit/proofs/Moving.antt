@@ -73,7 +73,7 @@ module _ (s t : Holds) (path : List ℕ) (c : List Bool) (put : t ≡ put_chain 
       ∙ ap (differing (bits_on s path) (map (hold_at s) (bits_on s path))) (sym now)
       ∙ differing_is (hold_at s) (hold_at t) (bits_on s path)
 
--- ---- bits are put where they stand in other holds
+-- ---- bits are put where they are in other holds
 
 pub held_as : (s t : Holds) (b : BitId) → map length s ≡ map length t → IsHeld t b → IsHeld s b
 held_as s t b e h = omega (arith, h, as_wide s t e b.reg)

@@ -95,7 +95,7 @@ on_length holds path i l =
       length-bits_from r 0 (length (bits_at holds r)),
     )
 
--- one more register that stands in both paths
+-- one more register that is in both paths
 pub both_next : (holds : Holds) (bits whole : List BitId) (path old : List ℕ) (i k w : ℕ) → i < length path
     → i < length old → get_or path i 0 ≡ get_or old i 0
     → w ≡ length (bits_at holds (get_or path i 0)) → k ≤ length bits

@@ -187,7 +187,7 @@ module _ {L : Type 0} (log : Log L) (net : Net) (device : Device) (machines : Li
   then_some f None y e = absurd (none-some y e)
   then_some f (Some x) y e = (x, refl, e)
 
-  -- so many of them
+  -- this many of them
   pub cycles_along : (n : ℕ) (s : State L) (left after : List Work) (d : Direct L)
       → shape s.holds ≡ widths net → after_cycles s.holds n left ≡ Some after
       → Along s left d → GoesAlong (ran chip n s) after

@@ -1,4 +1,4 @@
--- What a scan of a kind leaves for the next one, by the commands that it stands in.
+-- What a scan of a kind leaves for the next one, by the commands that it is in.
 use Rattle.std.specs.Prelude.{◌≡◌, ℕ, Bool, true, List, [], length, replicate, Option, option_map, unwrap_or}
 use Rattle.svf_writer.specs.Fits.{HasLength}
 use Rattle.svf_writer.specs.Lent.{lent}

@@ -68,7 +68,7 @@ differing (b ∷ bs) (x ∷ xs) [] = []
 differing (b ∷ bs) (x ∷ xs) (y ∷ ys) =
     elim (same_bit y x) [ true ↦ differing bs xs ys | false ↦ b ∷ differing bs xs ys ]
 
--- the path has taken so many bits
+-- the path has taken this many bits
 pub record IsTurned (r : Registers) (tdi : List Bool) (k : ℕ) : Type 0 where
   pub sound : AreRegisters r
   pub found : AreFound r

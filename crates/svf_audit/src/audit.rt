@@ -35,7 +35,7 @@ fn end(alloc: Global, auditor: &mut Auditor<'_>) -> Audit
     }
 }
 
-/// What comes of the audit where it goes no further, after so many scans.
+/// What comes of the audit where it goes no further, after this many scans.
 fn stopped(halt: Halt, scan: u32) -> Result<Audit, OutOfMemory>
     ensures { IfOk result (IsNo halt scan) }
 {

@@ -34,7 +34,7 @@ pub(crate) fn is_yes(answer: &Audit) -> bool
     }
 }
 
-/// Writes the line of a yes, for so many rounds of a procedure and scans of SVF.
+/// Writes the line of a yes, for this many rounds of a procedure and scans of SVF.
 #[tactic(auto, unfolding(crate::specs::Report::yes_text, ij_io::specs::Words::words_text))]
 fn put_yes<K: Sink>(rounds: u64, scans: u64, k: &mut K) -> Result<(), StoreFault>
     ensures whole { OnOk result (Adds (K.taken k.old) (K.taken k.new) (yes_text rounds scans)) }
@@ -72,7 +72,7 @@ fn put_no<'a, K: Sink>(scan: u64, cause: &'a [u8], k: &mut K) -> Result<(), Stor
     )
 }
 
-/// Writes the line that tells what an audit says, for so many rounds of a procedure and scans of SVF.
+/// Writes the line that tells what an audit says, for this many rounds of a procedure and scans of SVF.
 pub(crate) fn put_answer<K: Sink>(
     answer: &Audit,
     rounds: usize,

@@ -119,7 +119,7 @@ fn put_bits(bits: &[BitId], from: &Holds, into: &mut Holds)
     }
 }
 
-/// An empty path, with room for so many registers.
+/// An empty path, with room for this many registers.
 fn room_for_path(alloc: Global, n: usize) -> Result<List<u32>, OutOfMemory>
     ensures room { IfOk result (λ path. n ≤ length path.items + path.spare) }
     ensures empty { IfOk result (λ path. path.items ≡ []) }
@@ -171,7 +171,7 @@ struct Rooms {
     moved: List<BitId>,
 }
 
-/// Room for two paths of so many registers, and for the bits of every path.
+/// Room for two paths of this many registers, and for the bits of every path.
 fn room_for_all(alloc: Global, n: usize) -> Result<Rooms, OutOfMemory>
     ensures path { IfOk result (λ r. n ≤ length r.path.items + r.path.spare) }
     ensures no_path { IfOk result (λ r. r.path.items ≡ []) }

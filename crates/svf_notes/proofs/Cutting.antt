@@ -1,4 +1,4 @@
--- A text is cut after the `;` of its first command, and what stands there may be anything.
+-- A text is cut after the `;` of its first command, and what is there may be anything.
 use Rattle.std.proofs.Common.{◌≡◌, ℕ, suc, ◌<◌, Bool, true, false, cond, List, [], ◌∷◌, ◌++◌, length, take}
 use Rattle.std.proofs.Common.{drop, refl, ap, sym, ◌∙◌, arith}
 use Rattle.std.specs.Prelude.{◌==◌, ◌⊎◌}
@@ -8,7 +8,7 @@ use Rattle.ij_text.specs.Parts.{before}
 use Rattle.svf_reader.specs.Texts.{first, in_comment, plain_from, plain, texts}
 use Rattle.svf_reader.proofs.Whole.{texts_some}
 
--- a text whose plain text has a command t with its `;`: what stands after it is cut apart from it
+-- a text whose plain text has a command t with its `;`: what comes after it is cut apart from it
 pub record IsCut (inside : Bool) (src t : List ℕ) (later : List (List ℕ)) : Type 0 where
   pub rest : texts (plain (drop (suc (length t)) src)) ≡ later
   pub any : (xs : List ℕ) → texts (plain_from inside (take (suc (length t)) src ++ xs)) ≡ t ∷ texts (plain xs)
@@ -31,7 +31,7 @@ front_of : (c : ℕ) (ys w : List ℕ) (later : List (List ℕ)) → (c == 59) �
 front_of c ys w later other is =
     ap (λ k. cond k ([] ∷ texts ys) (before c (texts ys))) other ∙ ap (before c) is
 
--- a `;` outside of comments begins none, and stands in none
+-- a `;` outside of comments begins none, and is in none
 no_comment : (inside : Bool) (next other : ℕ)
     → in_comment inside 59 next ≡ false → in_comment inside 59 other ≡ false
 no_comment true next other h = absurd (cc)

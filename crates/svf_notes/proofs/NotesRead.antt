@@ -317,7 +317,7 @@ last_line [] x more = refl
 last_line (y ∷ ys) x more = ap (λ (l : List (List ℕ)). marked y ∷ l) (last_line ys x more)
 
 module _ (net : Net) (is : IsNet net) (holds : Holds) (held : AreHolds net holds) (bits : List Shifted) where
-  -- a row, and what stands after it
+  -- a row, and what comes after it
   row_then : (r at : ℕ) (more : List (List ℕ)) → r < length net.regs.items
       → at + length (bits_at holds r) ≤ length bits → at + length (bits_at holds r) ≤ 5000
       → read_rows (marked (row net r at (bits_at holds r) (take (length (bits_at holds r)) (drop at bits)))

@@ -1,4 +1,4 @@
--- After each scan of an explained text stands its own note.
+-- After each scan of an explained text is its own note.
 use Rattle.std.proofs.Common.{◌≡◌, ◌<◌, ◌≤◌, ◌^◌, ℕ, zero, suc, ◌+◌, Bool, true, false, Some, None, List, []}
 use Rattle.std.proofs.Common.{◌∷◌, length, map, Ok, refl, ap, sym, ◌∙◌, subst, arith}
 use Rattle.std.specs.Prelude.{slice_get}

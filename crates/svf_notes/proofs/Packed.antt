@@ -135,7 +135,7 @@ chunk xs at w k n h =
 split : {X : Type 0} (xs : List X) (k n : ℕ) → drop k xs ≡ take n (drop k xs) ++ drop (k + n) xs
 split xs k n = sym (take-append-drop n (drop k xs)) ∙ ap (λ l. take n (drop k xs) ++ l) (drop-drop n k xs)
 
--- the number of so many bits is that of the same bits of a part
+-- the number of this many bits is that of the same bits of a part
 number_in : (xs : List Bool) (at w k n x : ℕ) → k + n ≤ w
     → x ≡ number_of (slice_range xs (at + k) (at + k + n))
     → x ≡ number_of (take n (drop k (take w (drop at xs))))
@@ -286,7 +286,7 @@ pub length-span : {X : Type 0} (xs : List X) (at w : ℕ)
     → at + w ≤ length xs → length (take w (drop at xs)) ≡ w
 length-span xs at w h = simp (length-take, length-drop) (omega (arith, h))
 
--- past the last of so many bits
+-- past the last of this many bits
 pub differ_end : (cs es fs : List Bool) (at w k : ℕ) → at + w ≤ length cs
     → at + w ≤ length es → at + w ≤ length fs → w ≤ k
     → drop k (differing (take w (drop at cs)) (take w (drop at es)) (take w (drop at fs))) ≡ []

@@ -19,7 +19,7 @@ use Rattle.svf_notes.proofs.Cutting.{cut}
 use Rattle.svf_notes.proofs.Effects.{Effect, read_effect}
 use Rattle.svf_notes.proofs.Same.{same_first}
 
--- what stands after a part: a note, a line feed that may close it, and one that follows in any case
+-- what comes after a part: a note, a line feed that may close it, and one that follows in any case
 pub record IsBehind (p : Part) (later note : List ℕ) : Type 0 where
   pub feed : List ℕ
   pub at_most_one : (feed ≡ []) ⊎ (feed ≡ 10 ∷ [])

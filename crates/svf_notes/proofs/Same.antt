@@ -56,7 +56,7 @@ anywhere (t ∷ (u ∷ us)) s a b cs e =
 
 -- ---- a note before a text
 
--- wherever it stands, this plain text has these commands
+-- wherever it is, this plain text has these commands
 abbrev Reads : Step → List ℕ → List SeenCommand → Type 0
 Reads kept xs cs = (at : ℕ) → read_from kept.1 at (texts xs) ≡ Ok cs
 
@@ -75,7 +75,7 @@ line_reads kept (b ∷ bs) rest cs on reads =
     subst (λ (k : Bool). Reads kept (cond (not k) 32 b ∷ plain_from (not k) more) cs) (sym on.0)
     (blank_reads kept (plain_from true more) cs (line_reads kept bs rest cs on.1 reads))
 
--- a note begins with a line feed, and what stands after it, too
+-- a note begins with a line feed, and what comes after it, too
 pub after_lines : (lines : List (List ℕ)) (rest : List ℕ)
     → (tail : List ℕ) × (note_text lines ++ 10 ∷ rest ≡ 10 ∷ tail)
 after_lines [] rest = (rest, refl)

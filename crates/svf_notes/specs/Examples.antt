@@ -1,4 +1,4 @@
--- Worked notes: where they stand in a text, and what they say of some bits.
+-- Worked notes: where they are in a text, and what they say of some bits.
 use Rattle.std.specs.Prelude.{◌≡◌, ℕ, Bool, true, false, List, [], ◌∷◌, Option, Some, None, codes, map, refl}
 use Rattle.svf_notes.specs.declared.scan.Shifted.{Shifted}
 use Rattle.svf_notes.specs.declared.scan.Shown.TheVariants.{Written, Expected, Found}
@@ -8,7 +8,7 @@ use Rattle.svf_notes.specs.Explained.{explained}
 abbrev two : List (List ℕ)
 two = map note_text ((codes " scan 1" ∷ []) ∷ (codes " scan 2 path 1" ∷ codes "   0..0 R writes 1" ∷ []) ∷ [])
 
--- a note stands after the `;` of its scan, and before what followed there
+-- a note comes after the `;` of its scan, and before what followed there
 lines : explained two (codes "SIR 2 TDI (1);\n! a;\nSDR 1 TDI (1);\n")
     ≡ codes "SIR 2 TDI (1);\n!: scan 1\n! a;\nSDR 1 TDI (1);\n!: scan 2 path 1\n!:   0..0 R writes 1\n"
 unfolding explained

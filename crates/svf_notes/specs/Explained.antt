@@ -20,7 +20,7 @@ use Rattle.svf_notes.specs.Notes.{note_text, notes}
 abbrev pub closing : List ℕ → List ℕ
 closing rest = cond (first rest == 10) [] (10 ∷ [])
 
--- what stands after the `;` of a command: where it is a scan, the first note that is left
+-- what comes after the `;` of a command: where it is a scan, the first note that is left
 abbrev pub note_at : Bool → List (List ℕ) → List ℕ → List ℕ
 note_at false notes rest = []
 note_at true [] rest = []
@@ -30,7 +30,7 @@ abbrev pub notes_left : Bool → List (List ℕ) → List (List ℕ)
 notes_left false notes = notes
 notes_left true notes = drop 1 notes
 
--- a text, cut as its plain text is cut into commands at each `;` that stands in no comment
+-- a text, cut as its plain text is cut into commands at each `;` that is in no comment
 abbrev pub with_notes : List (List ℕ) → List (List ℕ) → List ℕ → List ℕ
 with_notes [] notes src = src
 with_notes (t ∷ []) notes src = src

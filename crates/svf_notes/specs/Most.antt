@@ -12,13 +12,13 @@ use Rattle.svf_notes.specs.Notes.{range_text}
 abbrev pub named : Net → ℕ → List ℕ
 named net r = register_path net r ++ range_text net r (width_of net r)
 
--- none of the first so many registers has a longer one
+-- none of the first this many registers has a longer one
 abbrev pub AreNamedWithin : Net → ℕ → ℕ → Type 0
 AreNamedWithin net count most = (r : ℕ) → r < count → length (named net r) ≤ most
 
--- the note of a scan of n bits and the line feed that closes it, in a network of so many registers: the words
--- and numbers of its first line, three digits for each bit, and for each register on the path its positions,
--- its name and the words of its row
+-- the note of a scan of n bits and the line feed that closes it, in a network of this many registers: the
+-- words and numbers of its first line, three digits for each bit, and for each register on the path its
+-- positions, its name and the words of its row
 unfoldable pub most_of_scan : Device → ℕ → ℕ → ℕ → ℕ
 most_of_scan device regs name n =
     57 + length (decimal device.ir) + (length (decimal n) + (3 * n + min n regs * (51 + name)))

@@ -1,4 +1,4 @@
--- After the `;` of each scan of a text stands the note of this very scan, and a reader of notes finds there
+-- After the `;` of each scan of a text is the note of this very scan, and a reader of notes finds there
 -- the scan's number and the registers of the active path (Serial Vector Format, revision E: SIR, SDR; IEEE
 -- 1687-2014: active scan path).
 use Rattle.std.specs.Prelude.{◌≡◌, ◌≤◌, ◌<◌, ℕ, zero, suc, ◌+◌, ◌-◌, ◌==◌, ◌⊎◌, Bool, cond, List, [], ◌∷◌}
@@ -31,7 +31,7 @@ use Rattle.svf_notes.specs.Scans.{Scan}
 
 -- ---- the scans of a play
 
--- the commands before the scan that has so many scans before it
+-- the commands before the scan that has this many scans before it
 abbrev pub before_scan : ℕ → List SeenCommand → List SeenCommand
 before_scan n [] = []
 before_scan n (SIR s ∷ cs) = elim n [ zero ↦ [] | suc m ↦ SIR s ∷ before_scan m cs ]
@@ -79,7 +79,7 @@ ScansBegin =
 abbrev pub some_if : Bool → List ℕ → Option (List ℕ)
 some_if there digits = cond there (Some digits) None
 
--- a register that stands at these positions: its bits of the scan are those from the lowest position on
+-- a register that is at these positions: its bits of the scan are those from the lowest position on
 abbrev pub register_row : Net → Holds → List Shifted → ℕ → ℕ → ReadRow
 register_row net holds bits at r =
     let held = bits_at holds r in
@@ -121,7 +121,7 @@ pub record Part : Type 0 where
   pub text : List ℕ
   pub note : List ℕ
 
--- the parts, and what stands after all of them: without their notes, and with them
+-- the parts, and what comes after all of them: without their notes, and with them
 abbrev pub unnoted : List Part → List ℕ → List ℕ
 unnoted [] rest = rest
 unnoted (p ∷ ps) rest = p.text ++ unnoted ps rest
@@ -140,7 +140,7 @@ through_scan (suc k) (Reset ∷ cs) = Reset ∷ through_scan (suc k) cs
 through_scan (suc k) (Idle ∷ cs) = Idle ∷ through_scan (suc k) cs
 through_scan (suc k) (Run m ∷ cs) = Run m ∷ through_scan (suc k) cs
 
--- after each part stands the note of its scan and nothing more but a line feed (10), and a reader of all that
+-- after each part is the note of its scan and nothing more but a line feed (10), and a reader of all that
 -- follows finds it
 pub record IsNoteOf (net : Net) (device : Device) (p : Part) (later : List ℕ) (x : Scan Counts) : Type 0 where
   pub feed : List ℕ
@@ -156,7 +156,7 @@ AreNotesOf net device (p ∷ ps) rest (x ∷ xs) =
     IsNoteOf net device p (noted ps rest) x × AreNotesOf net device ps rest xs
 
 -- a text, and the same text with the notes of some scans: without the notes it is the old one, byte for byte,
--- and the note of the k-th scan stands where a reader of SVF has read the commands up to the k-th scan
+-- and the note of the k-th scan is where a reader of SVF has read the commands up to the k-th scan
 pub record IsNoted (net : Net) (device : Device) (commands : List SeenCommand)
     (scans : List (Scan Counts)) (src new : List ℕ) : Type 0 where
   pub parts : List Part

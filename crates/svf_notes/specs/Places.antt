@@ -64,7 +64,7 @@ on_path net holds len at =
     cond (len == path_length net holds)
     (register_text net (bit_on holds (route_of net holds) at)) (codes " no register")
 
--- what a scan of so many bits goes through, and of the network where a bit comes to stand
+-- what a scan of this many bits goes through, and of the network where a bit comes to stand
 abbrev pub target_place : Net → Holds → ℕ → ℕ → Target → List ℕ
 target_place net holds len at Instruction = codes " instruction"
 target_place net holds len at (Data Network) = on_path net holds len at

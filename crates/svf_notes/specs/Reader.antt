@@ -99,6 +99,6 @@ abbrev pub note_in : List (List ℕ) → Option ReadNote
 note_in ([] ∷ line ∷ lines) = note_of_words (runs line) (read_rows lines)
 note_in _ = None
 
--- the note at the front of a text, a line between line feeds (10); what stands after it plays no part
+-- the note at the front of a text, a line between line feeds (10); what comes after it plays no part
 abbrev pub read_note : List ℕ → Option ReadNote
 read_note text = note_in (split 10 text)

@@ -1,4 +1,4 @@
--- The scans of a play: the bits of each as they stand at TDI and TDO, and the state in which they were
+-- The scans of a play: the bits of each as they are at TDI and TDO, and the state in which they were
 -- shifted (Serial Vector Format, revision E: SIR, SDR; IEEE 1149.1-2013, clause 6: Shift-IR, Shift-DR).
 use Rattle.std.specs.Prelude.{ℕ, ◌==◌, cond, Bool, List, [], ◌∷◌}
 use Rattle.tap_machine.specs.declared.Pins.{Pins}

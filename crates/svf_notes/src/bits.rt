@@ -51,7 +51,7 @@ impl Part {
     }
 }
 
-/// Whether one of so many bits from a position on is 1.
+/// Whether one of this many bits from a position on is 1.
 fn any_one(bits: &Bits, at: u32, width: u32) -> bool
     requires { at + width ≤ length bits.now.items }
     ensures { result ≡ has_one (take width (drop at bits.now.items)) }
@@ -68,7 +68,7 @@ fn any_one(bits: &Bits, at: u32, width: u32) -> bool
     false
 }
 
-/// Whether two lists differ in one of so many bits from a position on where a third has a 1.
+/// Whether two lists differ in one of this many bits from a position on where a third has a 1.
 fn any_other(marks: &Bits, bits: &Bits, others: &Bits, at: u32, width: u32) -> bool
     requires marks { at + width ≤ length marks.now.items }
     requires bits { at + width ≤ length bits.now.items }

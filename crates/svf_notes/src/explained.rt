@@ -66,7 +66,7 @@ fn add_next_note(
     }
 }
 
-/// Adds what stands after the `;` of a command, before the rest of the text.
+/// Adds what comes after the `;` of a command, before the rest of the text.
 fn add_note(
     playing: &mut Playing,
     scans: bool,
@@ -139,7 +139,7 @@ fn put_text<S: Shelf>(
     put_last_piece(name, &piece, shelf)
 }
 
-/// The length of what stands after the `;` of a command, at most `u64::MAX`.
+/// The length of what comes after the `;` of a command, at most `u64::MAX`.
 fn note_len(
     alloc: Global,
     playing: &mut Playing,

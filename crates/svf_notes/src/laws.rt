@@ -18,7 +18,7 @@ pub fn explained_commands_stay()
     ensures { ExplainedIsSame }
 {}
 
-/// What a play compares is what stands at the bits of its scans: the k-th bit of a scan is the compare at
+/// What a play compares is what is at the bits of its scans: the k-th bit of a scan is the compare at
 /// position k of the scan of this number, if there is one (Serial Vector Format, revision E: TDO, MASK).
 pub fn scans_compare()
     ensures { ScansCompare }

@@ -53,7 +53,7 @@ fn longest_name(alloc: Global, net: &Net) -> Result<u64, OutOfMemory>
     Ok(longest)
 }
 
-/// At least as many bytes as the rows of a scan of so many bits have for its registers' names and words.
+/// At least as many bytes as the rows of a scan of this many bits have for its registers' names and words.
 fn names_most(regs: u64, name: u64, bits: u32) -> u64
     ensures { min (min bits regs * (51 + name)) (2 ^ 64 - 1) ≤ result }
 {
@@ -62,7 +62,7 @@ fn names_most(regs: u64, name: u64, bits: u32) -> u64
         .saturating_mul(name.saturating_add(51))
 }
 
-/// At least as many bytes as the note of a scan of so many bits has.
+/// At least as many bytes as the note of a scan of this many bits has.
 fn scan_most(device: &Device, regs: u64, name: u64, bits: u32) -> u64
     ensures { min (most.most_of_scan device.now regs name bits) (2 ^ 64 - 1) ≤ result }
 {

@@ -117,7 +117,7 @@ fn put_on_path(
     }
 }
 
-/// Writes what stands at a bit.
+/// Writes what is at a bit.
 fn put_values(bit: Shifted, line: &mut SureSink) -> Result<(), StoreFault>
     ensures { OnOk result (Adds (Some line.old) (Some line.new) (places.values_text bit)) }
 {
@@ -157,7 +157,7 @@ fn put_position(number: u32, at: u64, line: &mut SureSink) -> Result<(), StoreFa
     )
 }
 
-/// Writes what a scan of so many bits goes through, and of the network where a bit of it comes to stand.
+/// Writes what a scan of this many bits goes through, and of the network where a bit of it comes to stand.
 fn put_target(
     net: &Net,
     bench: &Bench,
@@ -177,7 +177,7 @@ fn put_target(
     }
 }
 
-/// Writes the line of a bit of the scan that was shifted last, which has this number and so many bits.
+/// Writes the line of a bit of the scan that was shifted last, which has this number and this many bits.
 fn put_line(
     playing: &Playing,
     number: u32,

@@ -10,7 +10,7 @@ use ij_bits::OutOfMemory;
 use net_bench::{Bench, Played};
 use tap_machine::Player;
 
-/// What stands at TDI and TDO at one clock that shifts, and what is expected at TDO.
+/// What is at TDI and TDO at one clock that shifts, and what is expected at TDO.
 #[derive(Clone, Copy, Drop)]
 pub(crate) struct Shifted {
     pub tdi: bool,

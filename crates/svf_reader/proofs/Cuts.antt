@@ -87,7 +87,7 @@ cut_is inside (b ∷ bs) n e within =
     cut_at inside b bs (in_comment inside b (first bs)) (in_comment inside b (first bs) || not (b == 59)) n
     refl refl e within (λ m f w. cut_is (in_comment inside b (first bs)) bs m f w)
 
--- what stands after it is a `;`
+-- what comes after it is a `;`
 whole_at : (b : ℕ) (bs : List ℕ) (h t : Bool) (n : ℕ) → (h || not (b == 59)) ≡ t
     → cond t (suc (run_length Command h bs)) 0 ≡ n → n < suc (length bs)
     → ((m : ℕ) → run_length Command h bs ≡ m → m < length bs → bs ≡ take m bs ++ 59 ∷ drop (suc m) bs)

@@ -153,7 +153,7 @@ padded_is (suc n) (b ∷ bs) h =
     let same : n - length bs ≡ suc n - suc (length bs) = omega arith in
     ap (λ (l : List Bool). b ∷ l) (padded_is n bs (omega arith) ∙ ap (λ k. bs ++ replicate k false) same)
 
--- the digits of so many bits stand for these bits, and nothing more
+-- the digits of this many bits stand for these bits, and nothing more
 pub record StandsFor (bits : List Bool) (digits : List ℕ) : Type 0 where
   pub bits_are : fitted (length bits) (hex_bits digits) ≡ bits
   pub narrow : is_wide (length bits) (hex_bits digits) ≡ false

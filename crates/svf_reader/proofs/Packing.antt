@@ -12,7 +12,7 @@ use Rattle.svf_reader.proofs.Putting.{hex_bits-append, hex_length}
 use Rattle.svf_reader.proofs.Digits.{padded, padded_split, bits_again, high_bits}
 use Rattle.ij_bits.proofs.Hex.{number_zero}
 
--- ---- exactly so many bits
+-- ---- exactly this many bits
 
 take_padded : (n m : ℕ) (bs : List Bool) → n ≤ m → take n (bs ++ replicate m false) ≡ padded n bs
 take_padded zero m bs h = refl
@@ -157,7 +157,7 @@ wide_at n digits front last false e parts few =
     ∙ ap has_one (drop-append-le n (hex_bits last) (hex_bits front) (omega (arith, hex_length last)))
     ∙ has_one-append (drop n (hex_bits last)) (hex_bits front)
 
--- a 1 after the last bits stands in the last part's number, or in the front
+-- a 1 after the last bits is in the last part's number, or in the front
 pub wide_is : (k n : ℕ) (all : List Bool) (digits front last : List ℕ)
     → InParts digits front last → n ≤ 64 → drop k all ≡ hex_bits digits
     → has_one (drop (k + n) all) ≡ (not (number_of (hex_bits last) / 2 ^ n == 0) || has_one (hex_bits front))

@@ -25,7 +25,7 @@ words_are [] (w ∷ ws) = false
 words_are (name ∷ names) [] = false
 words_are (name ∷ names) (w ∷ ws) = is_word name w && words_are names ws
 
--- the number of decimal digits that stand after those of n
+-- the number of decimal digits that come after those of n
 abbrev pub number_from : ℕ → List ℕ → ℕ
 number_from n [] = n
 number_from n (b ∷ bs) = number_from (10 * n + (b - 48)) bs
@@ -37,7 +37,7 @@ number w = cond (nat_le 1 (length w) && (nat_le (length w) 10 && list_all is_asc
 
 -- ---- scans
 
--- the hexadecimal digits of each part that stands in a scan
+-- the hexadecimal digits of each part that is in a scan
 pub record Parts : Type 0 where
   pub tdi : Option (List ℕ)
   pub tdo : Option (List ℕ)
@@ -53,7 +53,7 @@ is_open w = bytes_eq w (codes "(")
 abbrev pub is_close : List ℕ → Bool
 is_close w = bytes_eq w (codes ")")
 
--- the words after those of a hexadecimal text and its `)`; `some`: whether a digit of the text stands before
+-- the words after those of a hexadecimal text and its `)`; `some`: whether a digit of the text comes before
 abbrev pub after_hex : Bool → List (List ℕ) → Option (List (List ℕ))
 after_hex some [] = None
 after_hex some (w ∷ ws) = cond (is_close w) (cond some (Some ws) None)
@@ -212,7 +212,7 @@ is_left_out w rest =
     (cond (is_one_of (codes "RUNTEST" ∷ end_states) w)
     (any_is_one_of (codes "RESET" ∷ []) (runs rest) || any_is_one_of left_out_names (runs rest)) false))))
 
--- the first word of a command that is left out, as it stands, by the words and the text after the first of
+-- the first word of a command that is left out, as it is, by the words and the text after the first of
 -- them
 unfoldable pub left_out : List (List ℕ) → List ℕ → Option (List ℕ)
 left_out [] rest = None

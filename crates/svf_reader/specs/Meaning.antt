@@ -47,7 +47,7 @@ with_leaving_clock kept n = cond kept.in_reset (suc n) n
 abbrev pub Step : Type 0
 Step = Option SeenCommand × ReadSoFar
 
--- after so many clocks, if they aren't too many: 1,000,000,000 in all
+-- after this many clocks, if they aren't too many: 1,000,000,000 in all
 abbrev pub within_clock_limit : ReadSoFar → Bool → ℕ → SeenCommand → Result Step Cause
 within_clock_limit kept in_reset n command =
     cond (nat_le (kept.clocks + n) 1000000000)

@@ -18,7 +18,7 @@ run_length class inside (b ∷ bs) =
     cond (in_class class (in_comment inside b (first bs)) b)
     (suc (run_length class (in_comment inside b (first bs)) bs)) 0
 
--- how long the first word is, where no gap stands before
+-- how long the first word is, where no gap comes before
 abbrev pub word_length : List ℕ → ℕ
 word_length text = cond (is_mark (first text)) 1 (run_length Word false text)
 

@@ -14,7 +14,7 @@ first (b ∷ bs) = b
 abbrev pub opens : ℕ → ℕ → Bool
 opens b next = b == 33 || (b == 47 && next == 47)
 
--- whether a byte stands in a comment, told from the byte before it and the one after it: a comment lasts up
+-- whether a byte is in a comment, told from the byte before it and the one after it: a comment lasts up
 -- to the line feed that ends its line, which isn't in it
 abbrev pub in_comment : Bool → ℕ → ℕ → Bool
 in_comment true b next = not (b == 10)
@@ -31,7 +31,7 @@ plain text = plain_from false text
 
 -- ---- commands
 
--- what stands before each `;` (59), and last what stands after all of them
+-- what comes before each `;` (59), and last what comes after all of them
 abbrev pub texts : List ℕ → List (List ℕ)
 texts [] = [] ∷ []
 texts (b ∷ bs) = cond (b == 59) ([] ∷ texts bs) (before b (texts bs))
@@ -68,7 +68,7 @@ words text = cut is_mark text
 abbrev pub runs : List ℕ → List (List ℕ)
 runs text = cut is_any text
 
--- what stands after the bytes of a word at the front
+-- what comes after the bytes of a word at the front
 abbrev pub after_bytes : List ℕ → List ℕ
 after_bytes [] = []
 after_bytes (b ∷ bs) = cond (in_word is_mark b) (after_bytes bs) (b ∷ bs)

@@ -115,7 +115,7 @@ fn block_size(class: Class) -> usize
     }
 }
 
-/// The text after bytes that are passed, so many at a time.
+/// The text after bytes that are passed, this many at a time.
 #[inline(always)]
 fn after_blocks(class: Class, size: usize, text: &[u8]) -> &[u8]
     requires some { 1 ≤ size }

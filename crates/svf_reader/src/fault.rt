@@ -12,7 +12,7 @@ use ij_text::{Name, Place};
 pub enum SvfFault {
     /// The command doesn't fit the grammar.
     SvfSyntax { at: Place },
-    /// The command is one of SVF that isn't read here. `word` is its first word, as it stands.
+    /// The command is one of SVF that isn't read here. `word` is its first word, as it is.
     LeftOut { at: Place, word: Name },
     /// A part of a scan has a 1 above the scan's length.
     HexWide { at: Place },

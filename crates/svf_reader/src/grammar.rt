@@ -58,7 +58,7 @@ fn with_part<'a>(name: &[u8], text: &'a [u8], parts: &mut PartTexts<'a>) -> bool
     }
 }
 
-/// The digits of a hexadecimal text, with what stands among them, and the text after its `)`.
+/// The digits of a hexadecimal text, with what is among them, and the text after its `)`.
 #[derive(Clone, Copy)]
 struct HexText<'a> {
     digits: &'a [u8],
@@ -178,7 +178,7 @@ fn state(text: &[u8]) -> Option<Parsed>
     }
 }
 
-/// What is after `RUNTEST` and, if it stands there, `IDLE`.
+/// What is after `RUNTEST` and, if it is there, `IDLE`.
 #[tactic(auto, unfolding(crate::specs::Commands::cycles))]
 fn cycles(text: &[u8]) -> Option<Parsed>
     ensures { option_map seen_parsed result ≡ cycles (words_of text.now) }
@@ -216,7 +216,7 @@ fn all_real(word: &[u8]) -> bool
     word.iter().all(|b| in_real(*b))
 }
 
-/// Whether a frequency stands after `FREQUENCY`, or nothing.
+/// Whether a frequency comes after `FREQUENCY`, or nothing.
 #[tactic(auto, unfolding(crate::specs::Commands::is_frequency))]
 fn is_frequency(text: &[u8]) -> bool
     ensures { result ≡ is_frequency (words_of text.now) }
@@ -227,7 +227,7 @@ fn is_frequency(text: &[u8]) -> bool
     }
 }
 
-/// Whether one of the modes of TRST that have no effect stands after `TRST`.
+/// Whether one of the modes of TRST that have no effect comes after `TRST`.
 #[tactic(auto, unfolding(crate::specs::Commands::is_trst))]
 fn is_trst(text: &[u8]) -> bool
     ensures { result ≡ is_trst (words_of text.now) }

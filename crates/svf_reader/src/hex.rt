@@ -84,7 +84,7 @@ fn split_last(digits: &[u8]) -> Parted<'_>
     Parted { front, last }
 }
 
-/// Adds 64 bits of the last digits at a time, as long as so many are asked for. The digits that are left.
+/// Adds 64 bits of the last digits at a time, as long as this many are asked for. The digits that are left.
 fn put_words<'a>(bits: &mut Bits, len: u32, digits: &'a [u8]) -> &'a [u8]
     requires empty { bits.old.items ≡ [] }
     requires room { len ≤ bits.old.spare }
@@ -130,7 +130,7 @@ fn digits_bits(alloc: Global, len: u32, digits: &[u8]) -> Result<Bits, SvfCause>
     Ok(bits)
 }
 
-/// The digits of a hexadecimal text up to its `)`, in room for those of so many bits.
+/// The digits of a hexadecimal text up to its `)`, in room for those of this many bits.
 fn gathered(alloc: Global, len: u32, text: &[u8]) -> Result<Vec<u8>, OutOfMemory>
     ensures { IfOk result (λ digits. digits.items ≡ digits_of text.now) }
 {

@@ -8,7 +8,7 @@ ghost use Rattle.svf_reader.specs.Texts.{plain};
 use crate::pieces::{Piece, next_run, next_word};
 use crate::words::{any_is_one_of, is_one_of, is_word, number};
 
-/// Whether a length that isn't 0 stands at the front.
+/// Whether a length that isn't 0 is at the front.
 fn begins_with_length(text: &[u8]) -> bool
     ensures { result ≡ begins_with_length (words_of text.now) }
 {

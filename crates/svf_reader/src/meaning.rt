@@ -113,7 +113,7 @@ fn scan_command(register: Register, scan: Scan) -> Command
     }
 }
 
-/// Leaves a command after so many more clocks.
+/// Leaves a command after this many more clocks.
 #[inline(always)]
 fn within_clock_limit(
     kept: ReadSoFar,

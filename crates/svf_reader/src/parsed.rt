@@ -7,7 +7,7 @@ pub(crate) enum Register {
     Data,
 }
 
-/// The parts that stand in a scan, each as its digits alone or as the text after its `(`.
+/// The parts that are in a scan, each as its digits alone or as the text after its `(`.
 #[derive(Clone, Copy)]
 pub(crate) struct PartTexts<'a> {
     pub tdi: Option<&'a [u8]>,

@@ -26,7 +26,7 @@ fn after_gap(text: &[u8]) -> &[u8]
     rest
 }
 
-/// The length of the first word, where no gap stands before.
+/// The length of the first word, where no gap comes before.
 #[inline(always)]
 fn word_len(text: &[u8]) -> usize
     ensures value { result ≡ word_length text.now }

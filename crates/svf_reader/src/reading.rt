@@ -23,7 +23,7 @@ use ij_text::{Place, SVF_LIMIT, place_at};
 use std::alloc::Global;
 use svf_writer::{Command, Commands};
 
-/// The text before the next `;` that stands in no comment, if there is one, and the text after that `;`. So
+/// The text before the next `;` that is in no comment, if there is one, and the text after that `;`. So
 /// it cuts an SVF text into its commands, with the comments between them. It takes no memory.
 pub fn next_text<'a>(text: &'a [u8]) -> Option<Piece<'a>>
     ensures value { MatchOption result (texts (plain text.now) ≡ plain text.now ∷ [])
@@ -65,7 +65,7 @@ fn refused_at(refused: SvfCause, at: Place) -> SvfFault
     }
 }
 
-/// The place of the first byte of a command, of which this is the text, and from which on so many bytes are
+/// The place of the first byte of a command, of which this is the text, and from which on this many bytes are
 /// left.
 fn command_place(src: &[u8], left: usize, text: &[u8]) -> Place
     requires short { length src.now ≤ SVF_LIMIT }
@@ -158,7 +158,7 @@ fn read(alloc: Global, src: &[u8]) -> Result<Commands, SvfFault>
 /// first.
 ///
 /// The first command at fault decides what is refused, and the fault's place is this command's first byte,
-/// which is the `;` where nothing else stands. In one command the order of the causes is `LeftOut`,
+/// which is the `;` where nothing else is. In one command the order of the causes is `LeftOut`,
 /// `SvfSyntax`, `SvfLimit` for the length of a scan, `HexWide`, `TdiMissing`, and `SvfLimit` for the clocks.
 /// The list takes memory by `alloc`; where there is none, the answer is `OutOfMemory`.
 ///

@@ -1,4 +1,4 @@
--- Parts of scans that are lent where they stand in their commands.
+-- Parts of scans that are lent where they are in their commands.
 use Rattle.std.specs.Prelude.{Bool, List, [], Option, option_map, unwrap_or}
 use Rattle.std.specs.Borrow.{Bor}
 

@@ -8,7 +8,7 @@ ghost use Rattle.svf_writer.specs.Written.{hex_text};
 use ij_bits::hex_digit_at;
 use ij_io::{Sink, StoreFault};
 
-/// Writes a number of so many bits as a hex text, with leading zeros.
+/// Writes a number of this many bits as a hex text, with leading zeros.
 pub(crate) fn put_opcode<K: Sink>(width: u32, n: u64, k: &mut K) -> Result<(), StoreFault>
     requires short { width ≤ 64 }
     requires fits { n < 2 ^ width }

@@ -20,7 +20,7 @@ pub(crate) enum Stored {
     List(Box<Bits>),
 }
 
-/// A part of a scan: its bits, where it stands in the command. Position 0 is the bit that is shifted first,
+/// A part of a scan: its bits, where it is in the command. Position 0 is the bit that is shifted first,
 /// so the one nearest TDO. At most 64 bits lie in the value itself.
 ///
 /// Contracts see an optional list of bits.
@@ -85,7 +85,7 @@ impl Part {
         })
     }
 
-    /// Whether the part stands in the command. Takes no memory.
+    /// Whether the part is in the command. Takes no memory.
     pub fn is_given(&self) -> bool
         ensures { IsTrue result ↔ IsSome self.now }
     {
@@ -134,7 +134,7 @@ impl Part {
     }
 }
 
-/// A part of a scan, lent where it stands in the command. Takes no memory.
+/// A part of a scan, lent where it is in the command. Takes no memory.
 pub fn lend(part: &Part) -> Option<&Part>
     ensures { lent result ≡ part.now }
 {

@@ -1,4 +1,4 @@
--- Names that stand in a list, and lists in which none stands twice.
+-- Names that are in a list, and lists in which none is twice.
 use Rattle.std.proofs.Common.{◌≡◌, ◌⊎◌, inl, inr, ℕ, zero, suc, ◌+◌, ◌-◌, ◌<◌, ◌≤◌, Bool, true, false, cond}
 use Rattle.std.proofs.Common.{List, [], ◌∷◌, ◌++◌, length, Option, Some, None, get_or, refl, ap, sym, ◌∙◌}
 use Rattle.std.proofs.Common.{arith}

@@ -99,7 +99,7 @@ same_split (x ∷ xs) [] = empty_second x (x == 46) (split 46 xs) (some_piece xs
 same_split (x ∷ xs) (y ∷ ys) = one_byte_more x y xs ys (split 46 xs) (split 46 ys) (x == 46)
     (y == 46) refl refl (some_piece xs) (some_piece ys) (same_split xs ys)
 
--- ---- a path that stands there
+-- ---- a path that is there
 
 any_of_paths : (path : List (List ℕ)) (ts : List SeenTable)
     → has_table path ts ≡ list_any (same_path path) (map (λ t. t.path) ts)

@@ -245,7 +245,7 @@ with_line m (Change row) = record m { change = m.change ++ row_said m row ∷ []
 with_line m (Run row) = record m { run = m.run ++ row_said m row ∷ [] }
 with_line m End = m
 
--- kinds of lines, in the order in which they stand in a block
+-- kinds of lines, in the order in which they are in a block
 abbrev pub rank : SaidLine → ℕ
 rank (Input name width) = 0
 rank (Word name width s) = 1
@@ -302,7 +302,7 @@ new_block at tables (Some path) =
     cond (has_table path tables) (Err (TableTwice at))
     (Ok (record { path = path; at = at; rank = 0; model = empty }))
 
--- what stands after some lines: whole tables, and a block that isn't ended
+-- what comes after some lines: whole tables, and a block that isn't ended
 pub record Tables : Type 0 where
   pub tables : List SeenTable
   pub block : Option Block

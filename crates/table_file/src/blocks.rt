@@ -35,7 +35,7 @@ pub(crate) struct Block {
     pub model: Model,
 }
 
-/// What stands after some lines: the paths of all blocks, whole tables, and a block that isn't ended.
+/// What comes after some lines: the paths of all blocks, whole tables, and a block that isn't ended.
 #[derive(Drop)]
 pub(crate) struct SoFar {
     pub paths: Names,

@@ -12,7 +12,7 @@ use std::alloc::{AllocError, AllocFailed};
 pub enum TableFault {
     /// The line isn't what may stand at its place of the file.
     TableSyntax { at: Place },
-    /// A name that isn't there, stands twice, or is of another kind than its place wants; or a word or the
+    /// A name that isn't there, is twice, or is of another kind than its place wants; or a word or the
     /// memory is set twice in a row.
     TableName { at: Place },
     /// A number or slice that doesn't fit, or a name of another width than what is set.

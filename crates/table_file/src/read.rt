@@ -131,7 +131,7 @@ fn read(alloc: Global, src: &[u8]) -> Result<List<Table>, TableFault>
 /// COND is `NAME = NUMBER`, and in a change row also `old NAME = NUMBER` for an input before the change; its
 /// number may have x. SET is `WORD = AMOUNT` or, in version 2, `MEM[NAME] = AMOUNT`; AMOUNT is a number, a
 /// name, `NAME + DECIMAL` or `NAME - DECIMAL`, and for a word in version 2 also `MEM[NAME]`. The line `mem`
-/// stands in version 2 alone, once a block.
+/// is in version 2 alone, once a block.
 ///
 /// The first line at fault decides what is refused. In one line the order of the causes is `TableSyntax`,
 /// `TableName`, `TableWidth`, `TableLimit`; a second block for a path is `TableTwice`. What is read takes

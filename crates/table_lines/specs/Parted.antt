@@ -5,7 +5,7 @@ use Rattle.table_lines.specs.declared.parts.Part.{Part}
 use Rattle.table_lines.specs.Reading.{texts}
 use Rattle.table_lines.specs.Said.{Words, is, parts, sets, row_of, SaidCond, SaidRow}
 
--- how many words stand before the first comma
+-- how many words come before the first comma
 abbrev pub part_length : Words → ℕ
 part_length [] = 0
 part_length (w ∷ ws) = cond (is (codes ",") w) 0 (suc (part_length ws))
@@ -23,7 +23,7 @@ abbrev pub with_conds : List SaidCond → Option SaidRow → Option SaidRow
 with_conds cs None = None
 with_conds cs (Some row) = Some (record row { conds = cs ++ row.conds })
 
--- how many words stand after a part
+-- how many words come after a part
 abbrev pub words_after : Option (Bor (List (Bor (List ℕ)))) → ℕ
 words_after None = 0
 words_after (Some rest) = suc (length rest.now)

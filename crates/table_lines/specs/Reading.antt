@@ -33,7 +33,7 @@ lines_left n text = lines_from n (lines text)
 abbrev pub seen_line : Place → List ℕ → Line
 seen_line at text = record { at = at; words = words text }
 
--- the number that stands there, open bits being 0
+-- the number that is there, open bits being 0
 abbrev pub value_of : Written → ℕ
 value_of (InDecimal n) = n
 value_of (InBits bits) = number_of (map is_one bits)

@@ -173,7 +173,7 @@ abbrev pub more_conds : SaidCond → Option SaidRow → Option SaidRow
 more_conds c None = None
 more_conds c (Some row) = Some (record row { conds = c ∷ row.conds })
 
--- after a condition stands the next part, or `do` and the first assignment
+-- after a condition is the next part, or `do` and the first assignment
 abbrev pub after_cond : Bool → SaidCond × Words → List Words → Option SaidRow → Option SaidRow
 after_cond second (c, []) ps rest = more_conds c rest
 after_cond second (c, w ∷ ws) ps rest =

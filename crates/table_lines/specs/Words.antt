@@ -54,7 +54,7 @@ without_x (Some (InBits bits)) = cond (list_any is_open bits) None (Some (number
 unfoldable pub plain : List ℕ → Option ℕ
 plain text = without_x (number text)
 
--- whether a 1 or an x stands at the width or above
+-- whether a 1 or an x is at the width or above
 unfoldable pub is_wide : ℕ → Written → Bool
 is_wide width (InDecimal n) = nat_le (2 ^ width) n
 is_wide width (InBits bits) = list_any (λ bit. is_open bit || is_one bit) (drop width bits)
@@ -72,7 +72,7 @@ abbrev pub hex_from : ℕ → List ℕ → ℕ
 hex_from n [] = n
 hex_from n (d ∷ ds) = hex_from (16 * n + hex_value d) ds
 
--- the number of so many hexadecimal digits, in either case
+-- the number of this many hexadecimal digits, in either case
 unfoldable pub hex : ℕ → ℕ → List ℕ → Option ℕ
 hex least most text =
     cond (nat_le least (length text) && (nat_le (length text) most && list_all is_ascii_hexdigit text))
@@ -80,7 +80,7 @@ hex least most text =
 
 -- ---- brackets
 
--- the text between `]` (93) at the end and what stands before
+-- the text between `]` (93) at the end and what comes before
 abbrev pub closed : List (List ℕ) → Option (List ℕ)
 closed [] = None
 closed (inside ∷ []) = None
@@ -98,7 +98,7 @@ opened (name ∷ []) = None
 opened (name ∷ rest ∷ []) = named name (closed (split 93 rest))
 opened (name ∷ rest ∷ t ∷ ts) = None
 
--- a name and what stands in brackets (91, 93) after it
+-- a name and what is in brackets (91, 93) after it
 abbrev pub bracketed : List ℕ → Option (List ℕ × List ℕ)
 bracketed text = opened (split 91 text)
 

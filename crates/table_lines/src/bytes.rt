@@ -95,7 +95,7 @@ fn after_blanks(text: &[u8]) -> &[u8]
     rest
 }
 
-/// The length of the first word, where no blank stands before.
+/// The length of the first word, where no blank comes before.
 fn word_len(text: &[u8]) -> usize
     requires some { 1 ≤ length text.now }
     requires no_blank { run_length Class.Blank text.now ≡ 0 }

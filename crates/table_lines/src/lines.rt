@@ -12,7 +12,7 @@ use std::alloc::Global;
 /// A line that has words.
 #[derive(Clone, Copy)]
 pub struct Line<'a> {
-    /// Where its first word stands.
+    /// Where its first word is.
     pub at: Place,
     /// The line without its comment.
     pub text: &'a [u8],
@@ -30,7 +30,7 @@ fn shown(text: &[u8]) -> &[u8]
     front
 }
 
-/// Where the first word of a line stands, if it has one.
+/// Where the first word of a line is, if it has one.
 fn first_place(number: u32, text: &[u8]) -> Place
     requires { length text.now + 1 < 2 ^ 32 }
     ensures { result ≡ line_place number text.now }

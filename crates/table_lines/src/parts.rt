@@ -13,7 +13,7 @@ pub(crate) struct Part<'w, 'a> {
     pub after: Option<&'w [&'a [u8]]>,
 }
 
-/// How many words stand before the first comma.
+/// How many words come before the first comma.
 fn part_len(words: &[&[u8]]) -> usize
     ensures value { result ≡ part_length (texts words.now) }
     ensures within { result ≤ length words.now }

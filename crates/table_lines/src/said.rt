@@ -132,7 +132,7 @@ fn cond_of<'a>(
     }
 }
 
-/// A name and what stands in brackets after it.
+/// A name and what is in brackets after it.
 #[derive(Clone, Copy)]
 pub(crate) struct InBrackets<'a> {
     pub name: &'a [u8],

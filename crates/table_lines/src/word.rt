@@ -109,7 +109,7 @@ fn is_above_decimal(n: u128, width: u32) -> bool
     width < 128 && n >> width != 0
 }
 
-/// Whether a 1 or an x stands at the width or above.
+/// Whether a 1 or an x is at the width or above.
 fn some_above(t: &Tern, width: u32) -> bool
     ensures { result ≡ list_any (λ bit. is_open bit || is_one bit) (drop width (tern_bits t.now)) }
 {
@@ -121,7 +121,7 @@ fn some_above(t: &Tern, width: u32) -> bool
     false
 }
 
-/// Whether a 1 stands at the width or above.
+/// Whether a 1 is at the width or above.
 fn some_one_from(t: &Tern, width: u32) -> bool
     ensures { result ≡ list_any is_one (drop width (tern_bits t.now)) }
 {
@@ -207,7 +207,7 @@ fn low_cares(t: &Tern, width: u32) -> u64
     n
 }
 
-/// The number that stands in a width, 0 at open bits; it has no 1 and no x at the width or above.
+/// The number that is in a width, 0 at open bits; it has no 1 and no x at the width or above.
 #[tactic(auto, unfolding(crate::specs::Words::value_in))]
 pub fn value_in(number: &Number, width: u32) -> u64
     requires { width ≤ 64 }

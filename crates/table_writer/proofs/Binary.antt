@@ -110,7 +110,7 @@ last_some : (xs : List ℕ) (d : ℕ) → xs ++ d ∷ [] ≢ []
 last_some [] d = λ e. absurd cc
 last_some (x ∷ xs) d = λ e. absurd cc
 
--- ---- a number of so many bits
+-- ---- a number of this many bits
 
 open_long : (w v c : ℕ) → length (open_bits (bits_of w v) (bits_of w c)) ≡ w
 open_long zero v c = refl

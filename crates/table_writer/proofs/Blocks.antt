@@ -35,7 +35,7 @@ use Rattle.ij_bits.proofs.Everywhere.{front_holds, middle_holds}
 use Rattle.ij_text.proofs.EqualTexts.{bytes_are}
 use Rattle.ij_bits.proofs.Tests.{and_second}
 
--- ---- where reading stands
+-- ---- where reading is
 
 abbrev the_block : List (List ℕ) → Place → ℕ → SeenModel → Block
 the_block p at r m = record { path = p; at = at; rank = r; model = m }

@@ -21,7 +21,7 @@ unfolding tables lines_of end_of version instrument path line number decimal pla
     entry slice tables_text table_text model_text digits
 counter = refl
 
--- `init` is written, spaces are one, x stands in digits, and a slice in brackets
+-- `init` is written, spaces are one, x is in digits, and a slice in brackets
 spelled : written (tables (codes
     "tables 2\ninstrument a.b\nin i 4\nword v 4 reset 0xA\nmem m 12 4\nout o=v[2:1]\nout p = v[3:0]\nchange when i=0b1x,v=3 do m[i]=v , v=m[v]\nrun do v=v-1\nend"))
     ≡ codes

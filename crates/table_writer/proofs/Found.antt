@@ -96,7 +96,7 @@ pub number_found : (k : ℕ) (xs : List (List ℕ)) → AreDifferent xs
 number_found k xs h within =
     let none : 0 + k ≡ k = omega arith in found_from 0 k xs h within ∙ ap (λ (n : ℕ). Some n) none
 
--- ---- none stands twice
+-- ---- none is twice
 
 pub none_twice : (xs : List (List ℕ)) → AreDifferent xs → has_twice xs ≡ false
 none_twice [] h = refl

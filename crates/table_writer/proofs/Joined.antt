@@ -98,7 +98,7 @@ path_word (n ∷ ns) h = one_word (path_text (n ∷ ns))
 
 -- ---- brackets
 
--- a name and what stands in brackets after it
+-- a name and what is in brackets after it
 abbrev pub in_brackets : List ℕ → List ℕ → List ℕ
 in_brackets name inside = name ++ (codes "[" ++ (inside ++ codes "]"))
 

@@ -53,7 +53,7 @@ pub record Follows (text : List ℕ) (ws : List (List ℕ)) : Type 0 where
   pub own : Reads text ws
   pub apart : (rest : List ℕ) → goes_on rest ≡ false → goes_on (text ++ rest) ≡ false
 
--- the words of a text, whatever stands after it
+-- the words of a text, whatever comes after it
 pub record Always (text : List ℕ) (ws : List (List ℕ)) : Type 0 where
   pub plain : list_all is_shown text ≡ true
   pub reads : (rest : List ℕ) → words (text ++ rest) ≡ ws ++ words rest

@@ -355,7 +355,7 @@ out_taken m h d good is there width fresh few =
     of_width : (n w : ℕ) → n < w → w ≤ 64 → n < 2 ^ 64
     of_width n w within few = let fits = short w few in omega (arith, within, fits)
 
--- ---- rows, whatever rows stand before
+-- ---- rows, whatever rows come before
 
 abbrev pub with_rows : SeenModel → List SeenRow → List SeenRow → SeenModel
 with_rows m c r = record m { change = c; run = r }

@@ -23,7 +23,7 @@ pub record IsTable (t : SeenTable) : Type 0 where
   pub names : HasNames t.model
   pub model : IsModel t.model
 
--- what is said of which instrument, wherever it stands
+-- what is said of which instrument, wherever it is
 abbrev pub without_place : SeenTable → List (List ℕ) × SeenModel
 without_place t = (t.path, t.model)
 

@@ -7,7 +7,7 @@ use Rattle.instruments.specs.declared.model.Set.{Set}
 use Rattle.instruments.specs.Seen.{SeenWord, SeenMemory, SeenOut, SeenModel}
 use Rattle.bench_file.specs.Written.{word_name, input_name, operand_text, cond_text, set_text, path_text}
 
--- what stands before an operand's name
+-- what comes before an operand's name
 abbrev pub old_mark : Operand → List ℕ
 old_mark (Word k) = []
 old_mark (Input k) = []

@@ -151,7 +151,7 @@ pub(crate) fn put_memory<K: Sink>(mem: &Option<MemDef>, k: &mut K) -> Result<(),
     }
 }
 
-/// Writes the bounds of a slice; a whole word stands without them.
+/// Writes the bounds of a slice; a whole word is without them.
 #[tactic(auto, unfolding(ij_io::specs::Words::words_text))]
 fn put_bounds<K: Sink>(width: u32, left: u32, right: u32, k: &mut K) -> Result<(), StoreFault>
     ensures whole { OnOk result (Adds (K.taken k.old) (K.taken k.new) (bounds_text width left right)) }

@@ -41,7 +41,7 @@ fn memory_name(mem: &Option<MemDef>) -> &[u8]
     }
 }
 
-/// What stands before the name of an input before a change.
+/// What comes before the name of an input before a change.
 pub(crate) fn old_mark(o: Operand) -> &'static [u8]
     ensures { result.now ≡ old_mark o }
 {

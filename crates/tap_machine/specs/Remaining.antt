@@ -85,7 +85,7 @@ rests_at_end p = rests_after p.rests_in (remaining_commands p)
 abbrev pub remaining : Progress → Remaining
 remaining p = record { pins = remaining_pins p; rests = rests_at_end p }
 
--- the phase once so many bits of a scan were shifted
+-- the phase once this many bits of a scan were shifted
 abbrev pub shifted_to : ℕ → ℕ → Phase
 shifted_to len k = cond (k == len) Exit (Shift k)
 

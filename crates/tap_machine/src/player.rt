@@ -29,7 +29,7 @@ impl<'a> Model for Player<'a> {
 }
 
 impl<'a> Player<'a> {
-    /// A play of these commands from a state of rest, after so many scans. It takes no memory.
+    /// A play of these commands from a state of rest, after this many scans. It takes no memory.
     pub fn new(from: Stable, scans: u32, commands: &'a Commands) -> Player<'a>
         requires { scans + scans_in commands.now < 2 ^ 32 }
         ensures pins { result.pins ≡ pins from scans commands.now }
@@ -60,7 +60,7 @@ impl<'a> Player<'a> {
         }
     }
 
-    /// What stands on the pins at the next clock, and what is expected at TDO; `None` where all were given.
+    /// What is on the pins at the next clock, and what is expected at TDO; `None` where all were given.
     /// It takes no memory.
     #[tactic(auto, using(crate::proofs::Remains::one_given, crate::proofs::Remains::none_given))]
     pub fn next(&mut self) -> Option<Pins>

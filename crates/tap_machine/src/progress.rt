@@ -28,7 +28,7 @@ pub(crate) struct HeldBits<'a> {
 /// What is left of the command at hand.
 #[derive(Clone, Copy)]
 pub(crate) enum Phase {
-    /// So many clocks with one TMS that shift nothing.
+    /// This many clocks with one TMS that shift nothing.
     Quiet { tms: bool, left: u32 },
     /// A scan of the instruction register, from Run-Test/Idle on.
     BeforeIr,
@@ -102,7 +102,7 @@ fn clock_without_shift(tms: bool) -> Pins
     }
 }
 
-/// The number of so many bits of one value.
+/// The number of this many bits of one value.
 fn same_bits(n: u32, value: bool) -> u64
     requires some { 1 ≤ n }
     requires few { n ≤ 64 }
@@ -282,7 +282,7 @@ impl<'a> Progress<'a> {
         self.begin_scan(Phase::BeforeDr, self.dr, &scan.tdo);
     }
 
-    /// Begins so many clocks with one TMS, which leave the controller in a state.
+    /// Begins this many clocks with one TMS, which leave the controller in a state.
     fn begin_quiet(&mut self, tms: bool, left: u32, from: Stable)
         ensures { self.new ≡ record self.old { phase = Phase.Quiet tms left; rests_in = from } }
     {

@@ -8,12 +8,12 @@ use ij_bits::Bits;
 use net_graph::{BitId, Net, Point, ReadBit};
 use std::alloc::Global;
 
-/// Where a register stands on a path.
+/// Where a register is on a path.
 #[derive(Clone, Copy, Drop)]
 struct Place {
     /// The scan of that path.
     scan: u64,
-    /// Where its position 0 stands, counted from scan-out.
+    /// Where its position 0 is, counted from scan-out.
     start: u32,
 }
 
@@ -116,7 +116,7 @@ impl Chip {
         Ok(reg.from)
     }
 
-    /// Where a bit stands on the path; `None` where it doesn't.
+    /// Where a bit is on the path; `None` where it doesn't.
     fn position(&self, bit: BitId) -> Result<Option<u32>, Stop> {
         let place = at(&self.places, bit.reg as usize)?;
         if place.scan != self.scan {

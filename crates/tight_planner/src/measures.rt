@@ -18,7 +18,7 @@ pub(crate) fn measured(all: &mut Segments) -> Result<(), Stop> {
     Ok(())
 }
 
-/// Measures the muxes that stand in so many rows.
+/// Measures the muxes that are in this many rows.
 fn measure_depth(all: &mut Segments, depth: usize) -> Result<(), Stop> {
     for m in 0..all.muxes.len() {
         let info = copy_at(&all.muxes, m)?;
@@ -43,7 +43,7 @@ fn smallest_row(all: &Segments, m: usize, info: MuxInfo) -> Result<usize, Stop> 
     Ok(best)
 }
 
-/// Measures a mux whose rows are measured, and adds its bits to the segment that it stands in.
+/// Measures a mux whose rows are measured, and adds its bits to the segment that it is in.
 fn measure_mux(all: &mut Segments, m: usize, found: MuxInfo) -> Result<(), Stop> {
     let mut info = found;
     info.rest_row = smallest_row(all, m, info)?;

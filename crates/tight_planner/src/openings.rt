@@ -1,4 +1,4 @@
-// First openings: which scans have which rows on their path, so that what stands in them can be set at all.
+// First openings: which scans have which rows on their path, so that what is in them can be set at all.
 
 use crate::access::{at, copy_at, put_at};
 use crate::segments::Segments;
@@ -17,7 +17,7 @@ const SCAN_CLOCKS: u64 = 5;
 struct Opening {
     /// The segments around and with it, outermost first.
     chain: Vec<usize>,
-    /// So many of these must be on the path at some scan, later so many, and so on, before all can be.
+    /// This many of these must be on the path at some scan, later this many, and so on, before all can be.
     levels: Vec<usize>,
 }
 
@@ -142,7 +142,7 @@ impl Stretch {
         Ok(())
     }
 
-    /// Whether so many segments of a chain are on the path of some scan.
+    /// Whether this many segments of a chain are on the path of some scan.
     fn is_opened(&self, chain: &[usize], count: usize) -> Result<bool, Stop> {
         if self.scans.is_empty() {
             return Ok(false);

@@ -59,7 +59,7 @@ pub(crate) fn rest_row(
     Ok(best)
 }
 
-/// The bits of a segment in so many scans.
+/// The bits of a segment in this many scans.
 fn cost_of(all: &Segments, visits: &Visits, segment: usize, times: u64) -> Result<u64, Stop> {
     let it = copy_at(&all.segments, segment)?;
     let first = if copy_at(&visits.last, segment)?.is_some() {

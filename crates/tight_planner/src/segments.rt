@@ -20,11 +20,11 @@ pub(crate) struct Segment {
     pub mux: usize,
     /// Which row of it.
     pub row: usize,
-    /// The segment in which that mux stands.
+    /// The segment in which that mux is.
     pub up: usize,
-    /// How many rows it stands in, itself counted.
+    /// How many rows it is in, itself counted.
     pub depth: usize,
-    /// The bits of the registers that stand in this very list.
+    /// The bits of the registers that are in this very list.
     pub width: u64,
     /// The fewest bits that it has on the path, where each mux in it can be in any row.
     pub least: u64,
@@ -35,7 +35,7 @@ pub(crate) struct Segment {
 /// A scan mux.
 #[derive(Clone, Copy, Drop)]
 pub(crate) struct MuxInfo {
-    /// The segment that it stands in.
+    /// The segment that it is in.
     pub home: usize,
     /// The segment of its row 0. The others follow.
     pub first: usize,
@@ -56,7 +56,7 @@ pub(crate) struct Segments {
     pub segments: Vec<Segment>,
     /// How each segment is selected.
     pub rows: Vec<RowInfo>,
-    /// The muxes that stand in each segment.
+    /// The muxes that are in each segment.
     pub inner: Vec<Vec<usize>>,
     /// The muxes of the network.
     pub muxes: Vec<MuxInfo>,

@@ -34,10 +34,10 @@ pub(crate) struct Round {
     pub group: Group,
 }
 
-/// What stands between two resets, in order.
+/// What is between two resets, in order.
 #[derive(Clone, Copy, Drop)]
 pub(crate) enum Item {
-    /// So many clocks in Run-Test/Idle.
+    /// This many clocks in Run-Test/Idle.
     Run(u32),
     /// A round that needs no scan.
     Mark(usize),

@@ -16,7 +16,7 @@ use std::alloc::Global;
 use std::mem;
 use svf_writer::{put_preface, put_reset};
 
-/// At most so many bit steps are planned.
+/// At most this many bit steps are planned.
 const MOST_STEPS: u32 = 1000000;
 
 /// A plan under way.

@@ -25,7 +25,7 @@ pub(crate) fn list_copy<T: Copy>(alloc: Global, items: &[T]) -> Result<List<T>, 
     Ok(copy)
 }
 
-/// The same items, in the list that they stand in where that has no room to spare.
+/// The same items, in the list that they are in where that has no room to spare.
 pub(crate) fn list_trimmed<T: Copy + Drop>(
     alloc: Global,
     list: List<T>,

@@ -23,7 +23,7 @@ decreases-sum l = 6 * l.depth + 4
 abbrev pub decreases-with_product : goal.decreases-with_product
 decreases-with_product l = 6 * l.depth + 3
 
--- what is still read, from what stands on the left, is what the whole reads
+-- what is still read, from what is on the left, is what the whole reads
 abbrev pub invariant-product-loop-alloc : goal.invariant-product-loop-alloc
 invariant-product-loop-alloc l = record {
   bounded : l.left.value.used ≤ 256;

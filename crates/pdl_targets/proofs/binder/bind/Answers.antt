@@ -1,6 +1,6 @@
 use Rattle.std.proofs.Common.{sym, subst}
-use Rattle.pdl_expand.specs.declared.step.Deed.{Deed}
-use Rattle.pdl_expand.specs.Values.{seen_deed}
+use Rattle.pdl_expand.specs.declared.step.Action.{Action}
+use Rattle.pdl_expand.specs.Values.{seen_action}
 use Rattle.pdl_targets.specs.Binding.{feed}
 use Rattle.pdl_targets.specs.SeenGathered.{Binds, seen_gathered}
 use Rattle.pdl_targets.specs.SeenPlaces.{places_in}
@@ -10,9 +10,9 @@ use Rattle.pdl_targets.proofs.binder.bind.Goals as goal
 pub returns-in-Write-clause-answer : goal.returns-in-Write-clause-answer
 returns-in-Write-clause-answer c =
     let step = c.args.step.now in
-    let P : Deed → Type 0 =
+    let P : Action → Type 0 =
     λ d. Binds (feed c.args.net.now (places_in c.args.tree.now) (seen_gathered c.args.gathered.now)
-    (record { at = step.at; node = step.node; what = seen_deed d }))
+    (record { at = step.at; node = step.node; what = seen_action d }))
     (seen_gathered c.write.new.gathered) c.write.result in
     subst P (sym c.in-Write.is) c.write.ensures.answer
 

@@ -1,4 +1,4 @@
--- The path on which the mux is stuck goes on to where it stands, and the active path stays as it was traced.
+-- The path on which the mux is stuck goes on to where it is, and the active path stays as it was traced.
 use Rattle.std.proofs.Common.{◌≡◌, ◌≤◌, length}
 use Rattle.net_graph.specs.Named.{IsPointOf}
 use Rattle.mux_test.specs.Detours.{HasDetourRoom, IsTracedFrom}

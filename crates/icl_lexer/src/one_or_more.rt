@@ -19,11 +19,11 @@ enum Values<T> {
 ///
 /// Contracts see a record of one field: `items`, the values.
 #[derive(Drop)]
-pub struct Few<T> {
+pub struct OneOrMore<T> {
     values: Values<T>,
 }
 
-impl<T> Model for Few<T> {
+impl<T> Model for OneOrMore<T> {
     ghost use Rattle.icl_lexer.specs.Held.{Items, one_or_more};
 
     ghost Value = { Items T };
@@ -48,12 +48,12 @@ impl<T: Drop> Values<T> {
     }
 }
 
-impl<T> Few<T> {
+impl<T> OneOrMore<T> {
     /// One value.
-    pub fn one(value: T) -> Few<T>
+    pub fn one(value: T) -> OneOrMore<T>
         ensures { result.items ≡ value ∷ [] }
     {
-        Few {
+        OneOrMore {
             values: Values::One(value),
         }
     }
@@ -71,14 +71,14 @@ impl<T> Few<T> {
     }
 }
 
-impl<T: Drop> Few<T> {
+impl<T: Drop> OneOrMore<T> {
     /// The values, with one more after them.
-    pub fn with(self, alloc: Global, value: T) -> Result<Few<T>, OutOfMemory>
+    pub fn with(self, alloc: Global, value: T) -> Result<OneOrMore<T>, OutOfMemory>
         ensures { IfOk result (λ f. f.items ≡ self.items ++ value ∷ []) }
     {
         let mut list = self.values.into_list(alloc)?;
         list.push(value)?;
-        Ok(Few {
+        Ok(OneOrMore {
             values: Values::More(list),
         })
     }
