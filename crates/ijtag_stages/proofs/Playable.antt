@@ -7,7 +7,7 @@ use Rattle.tap_machine.specs.Play.{pins, scans_in}
 use Rattle.tap_machine.proofs.Clocks.{at_least, pins_are_clocks}
 use Rattle.svf_reader.specs.Meaning.{svf}
 use Rattle.svf_writer.specs.Clocks.{clocks_from}
-use Rattle.svf_reader.proofs.OneOrMore.{read_commands_are_within_limits as few_clocks}
+use Rattle.svf_reader.proofs.Few.{read_commands_are_within_limits as few_clocks}
 use Rattle.svf_reader.proofs.Following.{read_commands_fit}
 use Rattle.ijtag_stages.specs.Laws.{ReadCommandsArePlayable}
 

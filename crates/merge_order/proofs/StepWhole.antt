@@ -11,7 +11,7 @@ use Rattle.pdl_expand.specs.Expansion.{AFault as ExpandAFault, expansion}
 use Rattle.pdl_expand.specs.Values.{AStep, cells_of}
 use Rattle.pdl_expand.specs.Code.{Left}
 use Rattle.pdl_expand.specs.Working.{left_in}
-use Rattle.pdl_expand.proofs.OneOrMore.{steps_are_few}
+use Rattle.pdl_expand.proofs.Few.{steps_are_few}
 use Rattle.pdl_targets.specs.Laws.{HasPaths, rounds_in, cycles_in, cycles_of}
 use Rattle.pdl_targets.specs.Rounds.{Places}
 use Rattle.pdl_targets.specs.SeenPlaces.{places_in}

@@ -55,12 +55,12 @@ word_field f words seen k d e same h is =
 
 -- ---- inputs
 
-abbrev OneOrMore : Net → List Sig → Type 0
-OneOrMore net bits = (length bits ≤ 64) × All (IsInputOf net) bits
+abbrev Few : Net → List Sig → Type 0
+Few net bits = (length bits ≤ 64) × All (IsInputOf net) bits
 
 port_few : (net : Net) (ports : List PortIn) (p : ℕ)
     → All (λ port. (length port.bits.items ≤ 64) × All (IsInputOf net) port.bits.items) ports
-    → OneOrMore net (get_or (map (λ port. port.bits.items) ports) p [])
+    → Few net (get_or (map (λ port. port.bits.items) ports) p [])
 port_few net [] p all = (omega arith, All-nil (IsInputOf net))
 port_few net (x ∷ xs) zero all =
     All-head (λ (port : PortIn). (length port.bits.items ≤ 64) × All (IsInputOf net) port.bits.items) x xs all
@@ -69,7 +69,7 @@ port_few net (x ∷ xs) (suc p) all =
     × All (IsInputOf net) port.bits.items) x xs all)
 
 inst_few : (net : Net) (insts : List Inst) (i p : ℕ) → All (IsInst net) insts
-    → OneOrMore net
+    → Few net
     (get_or (get_or (map (λ inst. map (λ port. port.bits.items) inst.ins.items) insts) i []) p [])
 inst_few net [] i p all = (omega arith, All-nil (IsInputOf net))
 inst_few net (x ∷ xs) zero p all = port_few net x.ins.items p (All-head (IsInst net) x xs all).inputs

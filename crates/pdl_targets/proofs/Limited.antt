@@ -92,16 +92,16 @@ module _ (net : Net) (places : Places) where
 
   -- ---- a procedure
 
-  abbrev OneOrMore : Queue → Bound → Type 0
-  OneOrMore q b = (q.rounds + rounds_in b.steps ≤ 4096) × (q.cycles + cycles_in b.steps ≤ 4000000)
+  abbrev Few : Queue → Bound → Type 0
+  Few q b = (q.rounds + rounds_in b.steps ≤ 4096) × (q.cycles + cycles_in b.steps ≤ 4000000)
       × All (λ s. cycles_of (Some s) ≤ 1000000) b.steps
 
   with_few : (q : Queue) (a : Answer) (b : Bound) → Counts q a
-      → OneOrMore a.queue b → OneOrMore q (with_step a.step b)
+      → Few a.queue b → Few q (with_step a.step b)
   with_few q a b h k = by_step a.step h.1 h.2 h.3
     where
       by_step : (o : Option SeenStep) → a.queue.rounds ≡ q.rounds + length (rounds_of o)
-          → a.queue.cycles ≡ q.cycles + cycles_of o → cycles_of o ≤ 1000000 → OneOrMore q (with_step o b)
+          → a.queue.cycles ≡ q.cycles + cycles_of o → cycles_of o ≤ 1000000 → Few q (with_step o b)
       by_step None e f g = (omega (arith, e, k.0), omega (arith, f, k.1), k.2)
       by_step (Some s) e f g = (
         omega (arith, e, k.0),
@@ -109,14 +109,14 @@ module _ (net : Net) (places : Places) where
         All-cons (λ s. cycles_of (Some s) ≤ 1000000) s b.steps g k.2,
       )
 
-  all_few : (steps : List AStep) (q : Queue) → IsLimited q → OneOrMore q (bound_from net places q steps)
+  all_few : (steps : List AStep) (q : Queue) → IsLimited q → Few q (bound_from net places q steps)
   all_few [] q h = (omega (arith, h.0), omega (arith, h.1), All-nil (λ s. cycles_of (Some s) ≤ 1000000))
   all_few (s ∷ ss) q h =
       by_answer (λ p k. all_few ss p k) (feed net places q s) (after s.at s.node q h s.what)
     where
-      by_answer : ((p : Queue) → IsLimited p → OneOrMore p (bound_from net places p ss))
+      by_answer : ((p : Queue) → IsLimited p → Few p (bound_from net places p ss))
           → (x : Found Answer) → OfFound (Counts q) x
-          → OneOrMore q (elim x as (λ x. Bound) [
+          → Few q (elim x as (λ x. Bound) [
             | Is answer ↦ with_step answer.step (bound_from net places
                 answer.queue ss)
             | Fails fault ↦ record { steps = []; fault = Some fault }

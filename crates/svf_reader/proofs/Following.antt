@@ -8,7 +8,7 @@ use Rattle.svf_reader.specs.Texts.{words, texts, plain, blanks}
 use Rattle.svf_reader.specs.Meaning.{Cause, Refusal, Step, at_first, read_command, listed, before, at_end}
 use Rattle.svf_reader.specs.Meaning.{and_then, read_from, svf}
 use Rattle.svf_reader.specs.Scripts.{ReadCommandsFit}
-use Rattle.svf_reader.proofs.OneOrMore.{list_ok, same_list, no_list}
+use Rattle.svf_reader.proofs.Few.{list_ok, same_list, no_list}
 use Rattle.svf_reader.proofs.Fitting.{Follows, comes_follows}
 
 -- after the scans that are kept

@@ -10,7 +10,7 @@ pub mod Again
 pub mod Rereading
 pub mod Scripting
 pub mod Gaps
-pub mod OneOrMore
+pub mod Few
 pub mod Following
 pub mod Packing
 pub mod Keeping

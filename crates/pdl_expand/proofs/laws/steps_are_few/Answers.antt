@@ -1,4 +1,4 @@
-use Rattle.pdl_expand.proofs.OneOrMore.{steps_are_few}
+use Rattle.pdl_expand.proofs.Few.{steps_are_few}
 use Rattle.pdl_expand.proofs.laws.steps_are_few.Goals as goal
 
 pub returns : goal.returns

@@ -1,4 +1,4 @@
-use Rattle.svf_reader.proofs.OneOrMore.{read_commands_are_within_limits}
+use Rattle.svf_reader.proofs.Few.{read_commands_are_within_limits}
 use Rattle.svf_reader.proofs.laws.read_commands_are_within_limits.Goals as goal
 
 pub returns : goal.returns
