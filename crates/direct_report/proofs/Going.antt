@@ -22,7 +22,7 @@ use Rattle.net_graph.specs.declared.step.ReadBit.{ReadBit}
 use Rattle.pdl_meaning.specs.Direct.{Direct, do_group, do_rounds, found}
 use Rattle.pdl_meaning.specs.States.{SeenState}
 use Rattle.instruments.specs.Runners.{machines_of}
-use Rattle.direct_report.specs.Going.{AreCounted, AreReads, IsAfterWrites, StandsFor}
+use Rattle.direct_report.specs.Going.{AreCounted, AreReads, IsAfterWrites, SameState}
 use Rattle.direct_report.specs.Report.{differs, in_order, lines, rounds_lines}
 use Rattle.direct_report.specs.Seen.{found_all}
 use Rattle.direct_report.proofs.Ordering.{reads_are_few}
@@ -40,7 +40,7 @@ reads_of_group net g n is =
 
 -- what is found where a run stands for a meaning
 found_same : (s : SeenState) (net : Net) (models : List Model) (e : Direct Counts) → s.net ≡ net
-    → s.models ≡ models → StandsFor s e → (reads : List ReadBit)
+    → s.models ≡ models → SameState s e → (reads : List ReadBit)
     → found_all s reads ≡ map (found count_log net (machines_of models) e) reads
 found_same s net models e n m stands reads =
     let all : Net → List Model → Holds → List (Running Counts)
@@ -53,8 +53,8 @@ found_same s net models e n m stands reads =
 
 -- what comes after a round
 stands_next : (s after : SeenState) (net : Net) (models : List Model) (e : Direct Counts) (g : SeenGroup)
-    → s.net ≡ net → s.models ≡ models → StandsFor s e → IsAfterWrites s g.writes after
-    → StandsFor after (do_group count_log net (machines_of models) e g)
+    → s.net ≡ net → s.models ≡ models → SameState s e → IsAfterWrites s g.writes after
+    → SameState after (do_group count_log net (machines_of models) e g)
 stands_next s after net models e g n m stands is =
     record {
       holds = ap (λ (x : SeenState). x.holds) is ∙ ap (λ (h : Holds). write_all h g.writes) stands.holds;
@@ -75,7 +75,7 @@ stands_next s after net models e g n m stands is =
 pub record GoesOn (net : Net) (models : List Model) (gs left : List SeenGroup) (now : SeenState)
     (reads differ : ℕ) (old new : Option (List ℕ)) (d : Direct Counts) : Type 0 where
   pub e : Direct Counts
-  pub stands : StandsFor now e
+  pub stands : SameState now e
   pub rest : do_rounds count_log net (machines_of models) e left
       ≡ do_rounds count_log net (machines_of models) d gs
   pub front : AddsFront old new (rounds_lines net (machines_of models) e left)
@@ -85,7 +85,7 @@ pub record GoesOn (net : Net) (models : List Model) (gs left : List SeenGroup) (
 module _ (net : Net) (models : List Model) (first : SeenState) (gs : List Group) (old : Option (List ℕ)) where
   -- whatever meaning the run stood for
   abbrev pub Go : ℕ → SeenState → ℕ → ℕ → Option (List ℕ) → Type 0
-  Go i now reads differ new = (d : Direct Counts) → StandsFor first d
+  Go i now reads differ new = (d : Direct Counts) → SameState first d
       → GoesOn net models (map seen_group gs) (map seen_group (drop i gs)) now reads differ old new d
 
   pub begin : Go 0 first 0 0 old
@@ -105,7 +105,7 @@ module _ (net : Net) (models : List Model) (first : SeenState) (gs : List Group)
     abbrev piece : List ℕ
     piece = lines (in_order net (found_all now g.reads.items))
 
-    front_now : (d : Direct Counts) (stands : StandsFor first d)
+    front_now : (d : Direct Counts) (stands : SameState first d)
         → AddsFront old between (piece ++ rounds_lines net (machines_of models) (do_group count_log net
         (machines_of models) (go d stands).e (seen_group g)) (map seen_group (drop (i + 1) gs)))
         (rounds_lines net (machines_of models) d (map seen_group gs))
@@ -119,7 +119,7 @@ module _ (net : Net) (models : List Model) (first : SeenState) (gs : List Group)
         (rounds_lines net (machines_of models) d (map seen_group gs))) (here ∙ told) x.front
 
     pub refused : (new : Option (List ℕ)) → AddsPart between new piece → (d : Direct Counts)
-        → StandsFor first d → AddsPart old new (rounds_lines net (machines_of models) d (map seen_group gs))
+        → SameState first d → AddsPart old new (rounds_lines net (machines_of models) d (map seen_group gs))
     refused new part d stands = front_part piece _ (front_now d stands) part
 
     pub go_on : (after : SeenState) (told differing_told : ℕ) (new : Option (List ℕ)) → Adds between new piece
@@ -161,7 +161,7 @@ module _ (net : Net) (models : List Model) (first : SeenState) (gs : List Group)
 
   -- all rounds are told and done
   module _ (i : ℕ) (now : SeenState) (reads differ : ℕ) (new : Option (List ℕ)) (go :
-      Go i now reads differ new) (l : length gs ≤ i) (d : Direct Counts) (stands : StandsFor first d) where
+      Go i now reads differ new) (l : length gs ≤ i) (d : Direct Counts) (stands : SameState first d) where
     none : map seen_group (drop i gs) ≡ []
     none = at_drop_all (map seen_group) gs i l
 
@@ -175,8 +175,8 @@ module _ (net : Net) (models : List Model) (first : SeenState) (gs : List Group)
         (rounds_lines net (machines_of models) d (map seen_group gs)))
         (ap (rounds_lines net (machines_of models) (go d stands).e) none) (go d stands).front)
 
-    pub state : StandsFor now (do_rounds count_log net (machines_of models) d (map seen_group gs))
-    state = subst (StandsFor now) rest_is (go d stands).stands
+    pub state : SameState now (do_rounds count_log net (machines_of models) d (map seen_group gs))
+    state = subst (SameState now) rest_is (go d stands).stands
 
     pub counts : AreCounted reads differ d
         (do_rounds count_log net (machines_of models) d (map seen_group gs))

@@ -17,8 +17,8 @@ use Rattle.report.specs.Registers.{registers_text}
 use Rattle.report.specs.Totalled.{direct_text}
 use Rattle.bench_report.specs.Report.{instruments_text}
 use Rattle.instruments.specs.Runners.{machines_of}
-use Rattle.direct_report.specs.Going.{AreCounted, StandsFor}
-use Rattle.direct_report.specs.Kept.{Kept, Keeps}
+use Rattle.direct_report.specs.Going.{AreCounted, SameState}
+use Rattle.direct_report.specs.Tally.{Tally, Keeps}
 use Rattle.direct_report.specs.Report.{differing, end_text, rounds_lines, step_lines}
 use Rattle.instruments.proofs.Machines.{machines_are}
 
@@ -30,7 +30,7 @@ same_as s d h i =
     ∙ ap (λ (x : List (Running Counts)). direct_at d.holds x d.reads) i
 
 -- what a run keeps, by the parts of its state
-abbrev pub kept_at : Net → List SeenModel → SeenState → ℕ → ℕ → Kept
+abbrev pub kept_at : Net → List SeenModel → SeenState → ℕ → ℕ → Tally
 kept_at net ms s reads differ =
     record { net = net; models = ms; holds = s.holds; insts = s.insts; reads = reads; differs = differ }
 
@@ -87,7 +87,7 @@ module _ (net : Net) (models : List Model) (s after : SeenState) (reads differ :
 
   -- the rounds of an iApply
   pub after_rounds : (gs : List SeenGroup) (told differing_told : ℕ)
-      → StandsFor after (do_rounds count_log net (machines_of s.models) d gs)
+      → SameState after (do_rounds count_log net (machines_of s.models) d gs)
       → AreCounted told differing_told d (do_rounds count_log net (machines_of s.models) d gs)
       → Keeps (kept_at net (map seen_model models) after (reads + told) (differ + differing_told))
       (do_step count_log net (map machine_of (map seen_model models)) d (Apply gs))
@@ -108,7 +108,7 @@ module _ (net : Net) (models : List Model) (s after : SeenState) (reads differ :
       ≡ step_lines net (map machine_of (map seen_model models)) d (Apply gs)
   lines_same gs = ap (λ (x : List Machine). rounds_lines net x d gs) machines_same
 
-  pub stands_now : StandsFor s d
+  pub stands_now : SameState s d
   stands_now = record { holds = k.holds; insts = k.insts }
 
   -- the end of the report

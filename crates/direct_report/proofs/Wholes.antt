@@ -15,37 +15,38 @@ use Rattle.net_graph.specs.SeenSteps.{SeenStep}
 use Rattle.net_graph.specs.Steps.{IsStep}
 use Rattle.pdl_meaning.specs.Direct.{Direct, do_step, do_all, power_up}
 use Rattle.pdl_targets.specs.Laws.{rounds_in, round_count}
-use Rattle.direct_report.specs.Kept.{Kept, Keeps}
+use Rattle.direct_report.specs.Tally.{Tally, Keeps}
 use Rattle.direct_report.specs.Report.{step_lines, steps_lines, end_text, direct_report}
 use Rattle.direct_report.specs.Whole.{lines_from, done_from, PrintsSteps, PrintsStepsPart, KeepsSteps}
 use Rattle.pdl_targets.proofs.Counted.{rounds_first}
 
 -- some steps are done and printed, and the others go on from here
-pub record GoesOn (first : Kept) (steps : List SeenStep) (d : Direct Counts) (old : Option (List ℕ))
-    (now : Kept) (left : List SeenStep) (new : Option (List ℕ)) : Type 0 where
+pub record GoesOn (first : Tally) (steps : List SeenStep) (d : Direct Counts) (old : Option (List ℕ))
+    (now : Tally) (left : List SeenStep) (new : Option (List ℕ)) : Type 0 where
   pub at : Direct Counts
   pub keeps : Keeps now at
   pub front : AddsFront old new (lines_from first at left) (lines_from first d steps)
   pub done : done_from first at left ≡ done_from first d steps
 
 -- of the same network and models
-pub record IsOf (first now : Kept) : Type 0 where
+pub record IsOf (first now : Tally) : Type 0 where
   pub net : now.net ≡ first.net
   pub models : now.models ≡ first.models
 
 -- a step of the play, whatever was done before it
-pub record IsStepOf (now : Kept) (s : SeenStep) (after : Kept) (between new : Option (List ℕ)) : Type 0 where
+pub record IsStepOf (now : Tally) (s : SeenStep) (after : Tally)
+    (between new : Option (List ℕ)) : Type 0 where
   pub lines : (d : Direct Counts) → Keeps now d
       → Adds between new (step_lines now.net (map machine_of now.models) d s)
   pub state : (d : Direct Counts) → Keeps now d
       → Keeps after (do_step count_log now.net (map machine_of now.models) d s)
 
-abbrev pub IsPartOf : Kept → SeenStep → Option (List ℕ) → Option (List ℕ) → Type 0
+abbrev pub IsPartOf : Tally → SeenStep → Option (List ℕ) → Option (List ℕ) → Type 0
 IsPartOf now s between new = (d : Direct Counts) → Keeps now d
     → AddsPart between new (step_lines now.net (map machine_of now.models) d s)
 
 -- the lines and the state of a step are those of the network and the models, wherever they are named
-here : (first now : Kept) (s : SeenStep) (after : Kept) (between new : Option (List ℕ))
+here : (first now : Tally) (s : SeenStep) (after : Tally) (between new : Option (List ℕ))
     → IsOf first now → IsStepOf now s after between new
     → (d : Direct Counts) → Keeps now d
     → Adds between new (step_lines first.net (map machine_of first.models) d s)
@@ -57,7 +58,7 @@ here first now s after between new of is d keeps =
     × Keeps after (do_step count_log now.net (map machine_of ms) d s)) of.models
     (is.lines d keeps, is.state d keeps))
 
-here_part : (first now : Kept) (s : SeenStep) (between new : Option (List ℕ))
+here_part : (first now : Tally) (s : SeenStep) (between new : Option (List ℕ))
     → IsOf first now → IsPartOf now s between new
     → (d : Direct Counts) → Keeps now d
     → AddsPart between new (step_lines first.net (map machine_of first.models) d s)
@@ -66,15 +67,15 @@ here_part first now s between new of is d keeps =
     (subst (λ (ms : List SeenModel). AddsPart between new (step_lines now.net (map machine_of ms) d s))
     of.models (is d keeps))
 
-module _ (first : Kept) (steps : List SeenStep) (old : Option (List ℕ)) where
-  abbrev pub Go : Kept → List SeenStep → Option (List ℕ) → Type 0
+module _ (first : Tally) (steps : List SeenStep) (old : Option (List ℕ)) where
+  abbrev pub Go : Tally → List SeenStep → Option (List ℕ) → Type 0
   Go now left new = (d : Direct Counts) → Keeps first d → GoesOn first steps d old now left new
 
   pub begin : Go first steps old
   begin d keeps =
       record { at = d; keeps = keeps; front = front_start old (lines_from first d steps); done = refl }
 
-  pub go_on : (now after : Kept) (s : SeenStep) (later left : List SeenStep) (between new : Option (List ℕ))
+  pub go_on : (now after : Tally) (s : SeenStep) (later left : List SeenStep) (between new : Option (List ℕ))
       → left ≡ s ∷ later → IsOf first now → Go now left between
       → IsStepOf now s after between new → Go after later new
   go_on now after s later left between new e of go is d keeps =
@@ -93,7 +94,7 @@ module _ (first : Kept) (steps : List SeenStep) (old : Option (List ℕ)) where
         done = ap (done_from first g.at) (sym e) ∙ g.done;
       }
 
-  pub refused : (now : Kept) (s : SeenStep) (later left : List SeenStep) (between new : Option (List ℕ))
+  pub refused : (now : Tally) (s : SeenStep) (later left : List SeenStep) (between new : Option (List ℕ))
       → left ≡ s ∷ later → IsOf first now → Go now left between
       → IsPartOf now s between new → PrintsStepsPart first steps old new
   refused now s later left between new e of go is d keeps =
@@ -108,21 +109,21 @@ module _ (first : Kept) (steps : List SeenStep) (old : Option (List ℕ)) where
       (here_part first now s between new of is g.at g.keeps)
 
   -- what is printed so far is a first part of all
-  pub part_so_far : (now : Kept) (left : List SeenStep) (new : Option (List ℕ))
+  pub part_so_far : (now : Tally) (left : List SeenStep) (new : Option (List ℕ))
       → Go now left new → PrintsStepsPart first steps old new
   part_so_far now left new go d keeps =
       let g = go d keeps in
       subst (λ (bytes : List ℕ). AddsPart old new bytes) g.front.whole
       (adds_then_part g.front.added (adds_none (lines_from first g.at left) refl))
 
-  pub all_printed : (now : Kept) (left : List SeenStep) (new : Option (List ℕ)) → left ≡ []
+  pub all_printed : (now : Tally) (left : List SeenStep) (new : Option (List ℕ)) → left ≡ []
       → Go now left new → PrintsSteps first steps old new
   all_printed now left new e go d keeps =
       let g = go d keeps in
       front_all (subst (λ (ss : List SeenStep). AddsFront old new
       (lines_from first g.at ss) (lines_from first d steps)) e g.front)
 
-  pub all_kept : (now : Kept) (left : List SeenStep) (new : Option (List ℕ)) → left ≡ []
+  pub all_kept : (now : Tally) (left : List SeenStep) (new : Option (List ℕ)) → left ≡ []
       → Go now left new → KeepsSteps first steps now
   all_kept now left new e go d keeps =
       let g = go d keeps in
@@ -153,7 +154,7 @@ module _ (left later : List SeenStep) (s : SeenStep) (e : left ≡ s ∷ later) 
 
 -- ---- the whole report: all steps, and then its end
 
-module _ (net : Net) (models : List SeenModel) (p : Kept) (steps : List SeenStep) (old mid : Option (List ℕ))
+module _ (net : Net) (models : List SeenModel) (p : Tally) (steps : List SeenStep) (old mid : Option (List ℕ))
     (en : p.net ≡ net) (em : p.models ≡ models) where
   abbrev start : Direct Counts
   start = power_up count_log net (map machine_of models)
@@ -183,7 +184,7 @@ module _ (net : Net) (models : List SeenModel) (p : Kept) (steps : List SeenStep
       → Adds old mid (steps_lines net (map machine_of models) start steps)
   lines keeps whole = subst (λ (bytes : List ℕ). Adds old mid bytes) lines_are (whole start keeps)
 
-  module _ (after : Kept) (new : Option (List ℕ))
+  module _ (after : Tally) (new : Option (List ℕ))
       (an : after.net ≡ p.net) (am : after.models ≡ p.models) where
     end_is : end_text after.net after.models (done_from p start steps) ≡ last
     end_is =

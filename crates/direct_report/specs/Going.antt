@@ -15,7 +15,7 @@ use Rattle.instruments.specs.Runners.{machines_of}
 use Rattle.direct_report.specs.Report.{differing}
 
 -- the same register bits and instruments
-pub record StandsFor (s : SeenState) (d : Direct Counts) : Type 0 where
+pub record SameState (s : SeenState) (d : Direct Counts) : Type 0 where
   pub holds : s.holds ≡ d.holds
   pub insts : s.insts ≡ d.insts
 

@@ -1,5 +1,5 @@
 pub mod Report
-pub mod Kept
+pub mod Tally
 pub mod Marked
 pub mod Seen
 pub mod Going

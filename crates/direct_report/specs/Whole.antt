@@ -7,20 +7,20 @@ use Rattle.instruments.specs.Machine.{count_log}
 use Rattle.instruments.specs.declared.Counts.{Counts}
 use Rattle.net_graph.specs.SeenSteps.{SeenStep}
 use Rattle.pdl_meaning.specs.Direct.{Direct, do_all}
-use Rattle.direct_report.specs.Kept.{Kept, Keeps}
+use Rattle.direct_report.specs.Tally.{Tally, Keeps}
 use Rattle.direct_report.specs.Report.{steps_lines}
 
-abbrev pub lines_from : Kept → Direct Counts → List SeenStep → List ℕ
+abbrev pub lines_from : Tally → Direct Counts → List SeenStep → List ℕ
 lines_from k d steps = steps_lines k.net (map machine_of k.models) d steps
 
-abbrev pub done_from : Kept → Direct Counts → List SeenStep → Direct Counts
+abbrev pub done_from : Tally → Direct Counts → List SeenStep → Direct Counts
 done_from k d steps = do_all count_log k.net (map machine_of k.models) d steps
 
-abbrev pub PrintsSteps : Kept → List SeenStep → Option (List ℕ) → Option (List ℕ) → Type 0
+abbrev pub PrintsSteps : Tally → List SeenStep → Option (List ℕ) → Option (List ℕ) → Type 0
 PrintsSteps k steps old new = (d : Direct Counts) → Keeps k d → Adds old new (lines_from k d steps)
 
-abbrev pub PrintsStepsPart : Kept → List SeenStep → Option (List ℕ) → Option (List ℕ) → Type 0
+abbrev pub PrintsStepsPart : Tally → List SeenStep → Option (List ℕ) → Option (List ℕ) → Type 0
 PrintsStepsPart k steps old new = (d : Direct Counts) → Keeps k d → AddsPart old new (lines_from k d steps)
 
-abbrev pub KeepsSteps : Kept → List SeenStep → Kept → Type 0
+abbrev pub KeepsSteps : Tally → List SeenStep → Tally → Type 0
 KeepsSteps k steps after = (d : Direct Counts) → Keeps k d → Keeps after (done_from k d steps)

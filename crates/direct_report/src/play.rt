@@ -1,7 +1,7 @@
 // A procedure's direct meaning, printed while it goes on.
 ghost use Rattle.std.specs.Prelude.{◌≡◌, ◌<◌, ◌≤◌, ◌+◌, ◌*◌, ◌^◌, length, map, All, IfOk, OnOk, OnErr};
 ghost use Rattle.pdl_targets.specs.Laws.{round_count};
-ghost use Rattle.direct_report.specs.Kept.{Keeps};
+ghost use Rattle.direct_report.specs.Tally.{Keeps};
 ghost use Rattle.direct_report.specs.Report.{end_text, step_lines};
 ghost use Rattle.ij_io.specs.Bytes.{Adds, AddsPart};
 ghost use Rattle.ij_io.specs.Causes.{HasCause};
@@ -43,10 +43,10 @@ pub struct DirectPlay<'a> {
 impl<'a> std::marker::Model for DirectPlay<'a> {
     ghost use Rattle.std.specs.Prelude.{map};
     ghost use Rattle.instruments.specs.Seen.{seen_model};
-    ghost use Rattle.direct_report.specs.Kept.{Kept};
+    ghost use Rattle.direct_report.specs.Tally.{Tally};
     ghost use Rattle.direct_report.specs.Playing.{IsPlay};
 
-    ghost Value = { Kept };
+    ghost Value = { Tally };
 
     ghost view = { λ p. record {
       net = p.net.now;

@@ -1,7 +1,7 @@
 // The rounds of an iApply: what they print, and what they do.
 ghost use Rattle.std.specs.Prelude.{◌≡◌, ◌<◌, ◌≤◌, ◌+◌, ◌*◌, ◌^◌, length, filter, map, All, IfOk, OnOk};
 ghost use Rattle.std.specs.Prelude.{OnErr};
-ghost use Rattle.direct_report.specs.Going.{AreCounted, AreReads, IsAfterWrites, StandsFor};
+ghost use Rattle.direct_report.specs.Going.{AreCounted, AreReads, IsAfterWrites, SameState};
 ghost use Rattle.net_graph.specs.Numbered.{HaveMarks};
 ghost use Rattle.direct_report.specs.Marked.{AreBlank};
 ghost use Rattle.direct_report.specs.Report.{differs, in_order, lines, rounds_lines};
@@ -24,7 +24,7 @@ use pdl_meaning::DataState;
 
 /// How many bits were compared, and how many of them differ.
 #[derive(Clone, Copy)]
-pub(crate) struct Told {
+pub(crate) struct ReadCounts {
     pub reads: u64,
     pub differs: u64,
 }
@@ -97,7 +97,7 @@ fn tell_round<K: Sink>(
     marks: &mut BitMarks,
     group: &Group,
     k: &mut K,
-) -> Result<Told, StoreFault>
+) -> Result<ReadCounts, StoreFault>
     requires well_formed { IsNet net.now }
     requires net { values.old.net ≡ net.now }
     requires group { IsGroup net.now (seen_group group.now) }
@@ -121,7 +121,7 @@ fn tell_round<K: Sink>(
 {
     let differs = put_group(net, values, group, marks, k)?;
     values.write(group.writes.as_slice());
-    Ok(Told {
+    Ok(ReadCounts {
         reads: group.reads.len() as u64,
         differs,
     })
@@ -134,7 +134,7 @@ pub(crate) fn tell_rounds<K: Sink>(
     marks: &mut BitMarks,
     rounds: &[Group],
     k: &mut K,
-) -> Result<Told, StoreFault>
+) -> Result<ReadCounts, StoreFault>
     requires well_formed { IsNet net.now }
     requires net { values.old.net ≡ net.now }
     requires groups { All (IsGroup net.now) (map seen_group rounds.now) }
@@ -145,15 +145,15 @@ pub(crate) fn tell_rounds<K: Sink>(
     ensures models { values.new.models ≡ values.old.models }
     ensures blank { AreBlank marks.new }
     ensures marks { HaveMarks net.now marks.new }
-    ensures whole { (d : Direct TheCounts) → StandsFor values.old d
+    ensures whole { (d : Direct TheCounts) → SameState values.old d
         → OnOk result (Adds (K.taken k.old) (K.taken k.new)
         (rounds_lines net.now (machines_of values.old.models) d (map seen_group rounds.now))) }
-    ensures part { (d : Direct TheCounts) → StandsFor values.old d
+    ensures part { (d : Direct TheCounts) → SameState values.old d
         → OnErr result (AddsPart (K.taken k.old) (K.taken k.new)
         (rounds_lines net.now (machines_of values.old.models) d (map seen_group rounds.now))) }
-    ensures state { (d : Direct TheCounts) → StandsFor values.old d → OnOk result (StandsFor values.new
+    ensures state { (d : Direct TheCounts) → SameState values.old d → OnOk result (SameState values.new
         (do_rounds count_log net.now (machines_of values.old.models) d (map seen_group rounds.now))) }
-    ensures counts { (d : Direct TheCounts) → StandsFor values.old d
+    ensures counts { (d : Direct TheCounts) → SameState values.old d
         → IfOk result (λ told. AreCounted told.reads told.differs d
         (do_rounds count_log net.now (machines_of values.old.models) d (map seen_group rounds.now))) }
     ensures few { IfOk result (λ told. told.reads ≤ 4096 * length rounds.now) }
@@ -167,5 +167,5 @@ pub(crate) fn tell_rounds<K: Sink>(
         reads += told.reads;
         differs += told.differs;
     }
-    Ok(Told { reads, differs })
+    Ok(ReadCounts { reads, differs })
 }

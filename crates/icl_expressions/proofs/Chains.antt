@@ -3,7 +3,7 @@ use Rattle.std.proofs.Common.{◌≡◌, ℕ, false, List, Option, Ok, refl}
 use Rattle.ij_text.specs.Reading.{read_repeat}
 use Rattle.icl_lexer.specs.Seen.{SeenToken}
 use Rattle.icl_lexer.specs.Grammar.{Counted, Signed, sum_sign, product_sign, factor, term, with_operand}
-use Rattle.icl_expressions.specs.declared.stop.Stop.{Stop}
+use Rattle.icl_expressions.specs.declared.stop.ReadStop.{ReadStop}
 use Rattle.icl_expressions.specs.Seen.{Fails}
 use Rattle.icl_expressions.specs.Reading.{Reading, Shrinks, is_sign, no_close, read_operand, read_chain}
 use Rattle.icl_expressions.specs.Reading.{read_factor, read_term}
@@ -20,7 +20,7 @@ module _ (head part : ℕ → Reading Counted) (sign : SeenToken → Option Sign
   unfolding read_chain
   chain_start used ts x e = rw e refl
 
-  pub chain_fails : (used : ℕ) (ts : List SeenToken) (stop : Stop) → Fails stop (head used ts)
+  pub chain_fails : (used : ℕ) (ts : List SeenToken) (stop : ReadStop) → Fails stop (head used ts)
       → Fails stop (read_chain head part sign used ts)
   unfolding read_chain
   chain_fails used ts stop h = fails_on others stop (head used ts) h

@@ -7,8 +7,8 @@ use Rattle.ij_text.specs.declared.Place.{Place}
 use Rattle.icl_lexer.specs.declared.words.Limit.{Limit}
 use Rattle.icl_lexer.specs.Seen.{SeenToken}
 use Rattle.icl_lexer.specs.Grammar.{Of}
-use Rattle.icl_expressions.specs.declared.stop.Stop.{Stop}
-use Rattle.icl_expressions.specs.declared.stop.Stop.TheVariants.{Memory, At}
+use Rattle.icl_expressions.specs.declared.stop.ReadStop.{ReadStop}
+use Rattle.icl_expressions.specs.declared.stop.ReadStop.TheVariants.{Memory, At}
 use Rattle.icl_expressions.specs.Seen.{Fails}
 use Rattle.icl_expressions.specs.Reading.{Reading, Shrinks, begins, gives, read_put, read_mark, read_after}
 use Rattle.icl_expressions.proofs.Symbols.{mark_reads}
@@ -27,7 +27,8 @@ put_ok make f (Err n) x h = absurd cc
 abbrev pub failed : {A : Type 0} → Unfit Limit → Outcome A
 failed n = Err n
 
-put_err : {A S T : Type 0} (make : A → S) (f : S → List SeenToken → Outcome T) (o : Outcome A) (stop : Stop)
+put_err : {A S T : Type 0} (make : A → S) (f : S → List SeenToken → Outcome T) (o : Outcome A)
+    (stop : ReadStop)
     → Fails stop (read_on (λ a. gives (make a)) o) → Fails stop (read_on (λ a rest. f (make a) rest) o)
 put_err make f o Memory h = tt
 put_err make f (Ok y) (At n why) h = absurd cc
@@ -35,7 +36,7 @@ put_err {A} {S} {T} make f (Err m) (At n why) h = ap (λ (k : Unfit Limit). fail
     (err_is {A = S × List SeenToken} {E = Unfit Limit} m (n, why) h)
 
 -- where a part isn't read, what follows isn't either
-pub fails_on : {A B : Type 0} (f : A → Reading B) (stop : Stop) (o : Outcome A)
+pub fails_on : {A B : Type 0} (f : A → Reading B) (stop : ReadStop) (o : Outcome A)
     → Fails stop o → Fails stop (read_on f o)
 fails_on f Memory o h = tt
 fails_on {A} {B} f (At n why) (Ok y) h = absurd cc
@@ -109,7 +110,7 @@ module _ {A S : Type 0} (next : S → A → S) (first : SeenToken → Bool) (r :
   go_on s [] x h e = absurd cc
   go_on s (t ∷ ts) x h e = sym (round s t ts h ∙ put_ok (λ a. next s a) parts (r s (t ∷ ts)) x e)
 
-  pub round_fails : (s : S) (ts : List SeenToken) (stop : Stop) → begins first ts ≡ true
+  pub round_fails : (s : S) (ts : List SeenToken) (stop : ReadStop) → begins first ts ≡ true
       → Fails stop (read_put (r s) next s ts) → Fails stop (parts s ts)
   round_fails s [] stop h k = absurd cc
   round_fails s (t ∷ ts) Memory h k = tt

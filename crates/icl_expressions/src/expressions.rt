@@ -9,12 +9,12 @@ ghost use Rattle.icl_expressions.specs.Reading.{read_put, read_operand, read_fac
 ghost use Rattle.icl_expressions.specs.Reading.{read_parentheses, read_expr, joined};
 
 use crate::leaves::read_leaf;
-use crate::parts::Part;
+use crate::parts::Parted;
 use crate::reading::{Parsed, begins_mark, read_mark};
 use crate::signs::{
     SignAt, begins_product_sign, begins_sum_sign, read_product_sign, read_sum_sign,
 };
-use crate::stop::Stop;
+use crate::stop::ReadStop;
 use icl_lexer::{Cursor, Expr, Limit};
 use ij_bits::beside;
 use std::alloc::Global;
@@ -29,15 +29,15 @@ pub(crate) struct Counting {
 }
 
 /// No further level of parentheses.
-fn too_deep<'a>(tokens: Cursor<'a>) -> Result<Parsed<'a, Counting>, Stop>
+fn too_deep<'a>(tokens: Cursor<'a>) -> Result<Parsed<'a, Counting>, ReadStop>
     ensures bounded { IfOk result (λ r. r.value.used ≤ 256) }
     ensures shorter { IfOk result (λ r. length r.rest < length tokens.entry) }
     ensures gives { Gives (seen_read seen_counting) result (read_barred too_deep tokens.entry) }
 {
     let left = tokens.len();
     match tokens.first() {
-        Some(t) if t.is_mark(b'(') => Err(Stop::At(left, Some(Limit::OfExpression))),
-        _ => Err(Stop::At(left, None)),
+        Some(t) if t.is_mark(b'(') => Err(ReadStop::At(left, Some(Limit::OfExpression))),
+        _ => Err(ReadStop::At(left, None)),
     }
 }
 
@@ -50,7 +50,7 @@ fn factor<'a>(
     depth: u32,
     alone: bool,
     used: u32,
-) -> Result<Parsed<'a, Counting>, Stop>
+) -> Result<Parsed<'a, Counting>, ReadStop>
     requires { used ≤ 256 }
     ensures bounded { IfOk result (λ r. r.value.used ≤ 256) }
     ensures shorter { IfOk result (λ r. length r.rest < length tokens.entry) }
@@ -72,7 +72,7 @@ fn in_parentheses<'a>(
     tokens: Cursor<'a>,
     depth: u32,
     used: u32,
-) -> Result<Parsed<'a, Counting>, Stop>
+) -> Result<Parsed<'a, Counting>, ReadStop>
     requires { used ≤ 256 }
     ensures bounded { IfOk result (λ r. r.value.used ≤ 256) }
     ensures shorter { IfOk result (λ r. length r.rest < length tokens.entry) }
@@ -100,7 +100,7 @@ fn product<'a>(
     depth: u32,
     alone: bool,
     used: u32,
-) -> Result<Parsed<'a, Counting>, Stop>
+) -> Result<Parsed<'a, Counting>, ReadStop>
     requires { used ≤ 256 }
     ensures bounded { IfOk result (λ r. r.value.used ≤ 256) }
     ensures shorter { IfOk result (λ r. length r.rest < length tokens.entry) }
@@ -120,7 +120,7 @@ fn with_factor<'a>(
     alloc: Global,
     left: Parsed<'a, Counting>,
     depth: u32,
-) -> Result<Parsed<'a, Counting>, Stop>
+) -> Result<Parsed<'a, Counting>, ReadStop>
     requires { left.value.used ≤ 256 }
     ensures bounded { IfOk result (λ r. r.value.used ≤ 256) }
     ensures shorter { IfOk result (λ r. length r.rest < length left.entry.rest) }
@@ -142,7 +142,7 @@ fn sum<'a>(
     tokens: Cursor<'a>,
     depth: u32,
     used: u32,
-) -> Result<Parsed<'a, Counting>, Stop>
+) -> Result<Parsed<'a, Counting>, ReadStop>
     requires { used ≤ 256 }
     ensures bounded { IfOk result (λ r. r.value.used ≤ 256) }
     ensures shorter { IfOk result (λ r. length r.rest < length tokens.entry) }
@@ -162,7 +162,7 @@ fn with_product<'a>(
     alloc: Global,
     left: Parsed<'a, Counting>,
     depth: u32,
-) -> Result<Parsed<'a, Counting>, Stop>
+) -> Result<Parsed<'a, Counting>, ReadStop>
     requires { left.value.used ≤ 256 }
     ensures bounded { IfOk result (λ r. r.value.used ≤ 256) }
     ensures shorter { IfOk result (λ r. length r.rest < length left.entry.rest) }
@@ -183,7 +183,7 @@ fn joined<'a>(
     left: Counting,
     sign: SignAt,
     right: Parsed<'a, Counting>,
-) -> Result<Parsed<'a, Counting>, Stop>
+) -> Result<Parsed<'a, Counting>, ReadStop>
     ensures counted { IfOk result (λ r. r.value.used ≡ right.entry.value.used) }
     ensures rest { IfOk result (λ r. length r.rest ≡ length right.entry.rest) }
     ensures gives { Gives (seen_read seen_counting) result
@@ -205,14 +205,14 @@ fn joined<'a>(
 
 /// An expression: at most 64 levels of parentheses and 256 operators.
 #[tactic(auto, unfolding(crate::specs::Reading::read_expr))]
-impl Part for Expr {
+impl Parted for Expr {
     ghost Plain = { SeenExpr };
 
     ghost view = { seen_expr };
 
     ghost reader = { read_expr };
 
-    fn read<'a>(alloc: Global, tokens: Cursor<'a>) -> Result<Parsed<'a, Expr>, Stop> {
+    fn read<'a>(alloc: Global, tokens: Cursor<'a>) -> Result<Parsed<'a, Expr>, ReadStop> {
         let read = sum(alloc, tokens, 64, 0)?;
         Ok(Parsed {
             value: read.value.expr,

@@ -13,7 +13,7 @@ ghost use Rattle.icl_expressions.specs.Reading.{read_leaf, read_decimal};
 
 use crate::expressions::Counting;
 use crate::reading::Parsed;
-use crate::stop::Stop;
+use crate::stop::ReadStop;
 use icl_lexer::{Cursor, Expr, Lexeme, SmallText, TokenKind};
 use ij_bits::OutOfMemory;
 use ij_text::after_first;
@@ -132,7 +132,7 @@ pub(crate) fn read_leaf<'a>(
     tokens: Cursor<'a>,
     alone: bool,
     used: u32,
-) -> Result<Parsed<'a, Counting>, Stop>
+) -> Result<Parsed<'a, Counting>, ReadStop>
     ensures counted { IfOk result (λ r. r.value.used ≡ used) }
     ensures shorter { IfOk result (λ r. length r.rest < length tokens.entry) }
     ensures gives { Gives (seen_read seen_counting) result (read_leaf alone used tokens.entry) }
@@ -141,14 +141,14 @@ pub(crate) fn read_leaf<'a>(
     match tokens.next() {
         Some((t, rest)) => match leaf_value(alloc, &t, alone, used)? {
             Some(value) => Ok(Parsed { value, rest }),
-            None => Err(Stop::At(left, None)),
+            None => Err(ReadStop::At(left, None)),
         },
-        None => Err(Stop::At(0, None)),
+        None => Err(ReadStop::At(0, None)),
     }
 }
 
 /// A decimal. Takes no memory, and says so.
-pub fn read_decimal<'a>(tokens: Cursor<'a>) -> Result<Parsed<'a, u32>, Stop>
+pub fn read_decimal<'a>(tokens: Cursor<'a>) -> Result<Parsed<'a, u32>, ReadStop>
     ensures shorter { IfOk result (λ r. length r.rest < length tokens.entry) }
     ensures gives { Gives (seen_read same) result (read_decimal tokens.entry) }
     ensures sure { IfErr result IsAtToken }
@@ -157,9 +157,9 @@ pub fn read_decimal<'a>(tokens: Cursor<'a>) -> Result<Parsed<'a, u32>, Stop>
     match tokens.next() {
         Some((t, rest)) => match decimal_value(&t) {
             Some(value) => Ok(Parsed { value, rest }),
-            None => Err(Stop::At(left, None)),
+            None => Err(ReadStop::At(left, None)),
         },
-        None => Err(Stop::At(0, None)),
+        None => Err(ReadStop::At(0, None)),
     }
 }
 

@@ -9,12 +9,12 @@ ghost use Rattle.icl_expressions.specs.Reading.{read_parted, read_name, read_val
 
 use crate::reading::{Parsed, begins_mark, read_mark, read_name};
 use crate::signals::{read_sig, read_value};
-use crate::stop::Stop;
+use crate::stop::ReadStop;
 use icl_lexer::{Cursor, Expr, OneOrMore, Sig, SmallText};
 use std::alloc::Global;
 
 /// A part of a text, several of which may stand with a mark between them.
-pub trait Part: Sized {
+pub trait Parted: Sized {
     /// The part without where it lies in memory.
     ghost Plain: { Type 0 };
 
@@ -24,17 +24,17 @@ pub trait Part: Sized {
     ghost reader: { Reading Plain };
 
     /// Reads it.
-    fn read<'a>(alloc: Global, tokens: Cursor<'a>) -> Result<Parsed<'a, Self>, Stop>
+    fn read<'a>(alloc: Global, tokens: Cursor<'a>) -> Result<Parsed<'a, Self>, ReadStop>
         ensures shorter { IfOk result (λ r. length r.rest < length tokens.entry) }
         ensures gives { Gives (seen_read view) result (reader tokens.entry) };
 }
 
 /// Parts with the next one, after a mark.
-fn with_next<'a, T: Part + Drop>(
+fn with_next<'a, T: Parted + Drop>(
     alloc: Global,
     parts: Parsed<'a, OneOrMore<T>>,
     mark: u8,
-) -> Result<Parsed<'a, OneOrMore<T>>, Stop>
+) -> Result<Parsed<'a, OneOrMore<T>>, ReadStop>
     ensures shorter { IfOk result (λ r. length r.rest < length parts.entry.rest) }
     ensures gives { Gives (seen_read (seen_few T.view)) result
         (read_put (read_after mark T.reader) appended (seen_few T.view parts.entry.value) parts.entry.rest) }
@@ -48,11 +48,11 @@ fn with_next<'a, T: Part + Drop>(
 }
 
 /// A part with those that follow, each after a mark.
-pub(crate) fn read_following<'a, T: Part + Drop>(
+pub(crate) fn read_following<'a, T: Parted + Drop>(
     alloc: Global,
     first: Parsed<'a, T>,
     mark: u8,
-) -> Result<Parsed<'a, OneOrMore<T>>, Stop>
+) -> Result<Parsed<'a, OneOrMore<T>>, ReadStop>
     requires { Shrinks T.reader }
     ensures shorter { IfOk result (λ r. length r.rest ≤ length first.entry.rest) }
     ensures gives { Gives (seen_read (seen_few T.view)) result
@@ -69,11 +69,11 @@ pub(crate) fn read_following<'a, T: Part + Drop>(
 }
 
 /// Parts with a mark between them.
-pub fn read_parted<'a, T: Part + Drop>(
+pub fn read_parted<'a, T: Parted + Drop>(
     alloc: Global,
     tokens: Cursor<'a>,
     mark: u8,
-) -> Result<Parsed<'a, OneOrMore<T>>, Stop>
+) -> Result<Parsed<'a, OneOrMore<T>>, ReadStop>
     requires { Shrinks T.reader }
     ensures shorter { IfOk result (λ r. length r.rest < length tokens.entry) }
     ensures gives { Gives (seen_read (seen_few T.view)) result (read_parted mark T.reader tokens.entry) }
@@ -85,40 +85,43 @@ pub fn read_parted<'a, T: Part + Drop>(
 // ---- the parts of values and signals
 
 /// A name.
-impl Part for SmallText {
+impl Parted for SmallText {
     ghost Plain = { List ℕ };
 
     ghost view = { bytes_of };
 
     ghost reader = { read_name };
 
-    fn read<'a>(alloc: Global, tokens: Cursor<'a>) -> Result<Parsed<'a, SmallText>, Stop> {
+    fn read<'a>(alloc: Global, tokens: Cursor<'a>) -> Result<Parsed<'a, SmallText>, ReadStop> {
         read_name(alloc, tokens)
     }
 }
 
 /// A value.
-impl Part for OneOrMore<Expr> {
+impl Parted for OneOrMore<Expr> {
     ghost Plain = { List SeenExpr };
 
     ghost view = { seen_few seen_expr };
 
     ghost reader = { read_value };
 
-    fn read<'a>(alloc: Global, tokens: Cursor<'a>) -> Result<Parsed<'a, OneOrMore<Expr>>, Stop> {
+    fn read<'a>(
+        alloc: Global,
+        tokens: Cursor<'a>,
+    ) -> Result<Parsed<'a, OneOrMore<Expr>>, ReadStop> {
         read_value(alloc, tokens)
     }
 }
 
 /// A signal.
-impl Part for Sig {
+impl Parted for Sig {
     ghost Plain = { SeenSig };
 
     ghost view = { seen_sig };
 
     ghost reader = { read_sig };
 
-    fn read<'a>(alloc: Global, tokens: Cursor<'a>) -> Result<Parsed<'a, Sig>, Stop> {
+    fn read<'a>(alloc: Global, tokens: Cursor<'a>) -> Result<Parsed<'a, Sig>, ReadStop> {
         read_sig(alloc, tokens)
     }
 }

@@ -6,7 +6,7 @@ ghost use Rattle.icl_lexer.specs.Views.{bytes_of};
 ghost use Rattle.icl_expressions.specs.Seen.{seen_read, Gives, IsAtToken};
 ghost use Rattle.icl_expressions.specs.Reading.{begins, no_close, read_mark, read_word, read_name};
 
-use crate::stop::Stop;
+use crate::stop::ReadStop;
 use icl_lexer::{Cursor, SmallText};
 use ij_bits::{List, OutOfMemory};
 use ij_text::Place;
@@ -72,7 +72,7 @@ pub fn before_close(tokens: &Cursor) -> bool
 }
 
 /// A mark, and its place. Takes no memory, and says so.
-pub fn read_mark<'a>(tokens: Cursor<'a>, mark: u8) -> Result<Parsed<'a, Place>, Stop>
+pub fn read_mark<'a>(tokens: Cursor<'a>, mark: u8) -> Result<Parsed<'a, Place>, ReadStop>
     ensures shorter { IfOk result (λ r. length r.rest < length tokens.entry) }
     ensures gives { Gives (seen_read same) result (read_mark mark tokens.entry) }
     ensures sure { IfErr result IsAtToken }
@@ -80,12 +80,12 @@ pub fn read_mark<'a>(tokens: Cursor<'a>, mark: u8) -> Result<Parsed<'a, Place>, 
     let left = tokens.len();
     match tokens.next() {
         Some((t, rest)) if t.is_mark(mark) => Ok(Parsed { value: t.at, rest }),
-        _ => Err(Stop::At(left, None)),
+        _ => Err(ReadStop::At(left, None)),
     }
 }
 
 /// A word that is this one, and its place. Takes no memory, and says so.
-pub fn read_word<'a>(tokens: Cursor<'a>, word: &[u8]) -> Result<Parsed<'a, Place>, Stop>
+pub fn read_word<'a>(tokens: Cursor<'a>, word: &[u8]) -> Result<Parsed<'a, Place>, ReadStop>
     ensures shorter { IfOk result (λ r. length r.rest < length tokens.entry) }
     ensures gives { Gives (seen_read same) result (read_word word.now tokens.entry) }
     ensures sure { IfErr result IsAtToken }
@@ -93,12 +93,12 @@ pub fn read_word<'a>(tokens: Cursor<'a>, word: &[u8]) -> Result<Parsed<'a, Place
     let left = tokens.len();
     match tokens.next() {
         Some((t, rest)) if t.is_word(word) => Ok(Parsed { value: t.at, rest }),
-        _ => Err(Stop::At(left, None)),
+        _ => Err(ReadStop::At(left, None)),
     }
 }
 
 /// Any word, a keyword included.
-pub fn read_name<'a>(alloc: Global, tokens: Cursor<'a>) -> Result<Parsed<'a, SmallText>, Stop>
+pub fn read_name<'a>(alloc: Global, tokens: Cursor<'a>) -> Result<Parsed<'a, SmallText>, ReadStop>
     ensures shorter { IfOk result (λ r. length r.rest < length tokens.entry) }
     ensures gives { Gives (seen_read bytes_of) result (read_name tokens.entry) }
 {
@@ -108,6 +108,6 @@ pub fn read_name<'a>(alloc: Global, tokens: Cursor<'a>) -> Result<Parsed<'a, Sma
             value: SmallText::of(alloc, t.text)?,
             rest,
         }),
-        _ => Err(Stop::At(left, None)),
+        _ => Err(ReadStop::At(left, None)),
     }
 }

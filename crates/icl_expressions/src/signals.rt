@@ -11,9 +11,9 @@ ghost use Rattle.icl_expressions.specs.Reading.{read_named_sig, read_plain_sig, 
 ghost use Rattle.icl_expressions.specs.Reading.{read_sigs};
 
 use crate::leaves::number_value;
-use crate::parts::{Part, read_following, read_parted};
+use crate::parts::{Parted, read_following, read_parted};
 use crate::reading::{Parsed, begins_mark, begins_name, read_mark};
-use crate::stop::Stop;
+use crate::stop::ReadStop;
 use icl_lexer::{Cursor, Ends, Expr, Lexeme, OneOrMore, Range, Sig, SigWhat, SmallText};
 use ij_bits::{List, beside};
 use ij_text::Place;
@@ -26,7 +26,7 @@ use std::alloc::Global;
 pub fn read_value<'a>(
     alloc: Global,
     tokens: Cursor<'a>,
-) -> Result<Parsed<'a, OneOrMore<Expr>>, Stop>
+) -> Result<Parsed<'a, OneOrMore<Expr>>, ReadStop>
     ensures shorter { IfOk result (λ r. length r.rest < length tokens.entry) }
     ensures gives { Gives (seen_read (seen_few seen_expr)) result (read_value tokens.entry) }
 {
@@ -41,7 +41,7 @@ pub fn read_expr_after<'a>(
     alloc: Global,
     tokens: Cursor<'a>,
     mark: u8,
-) -> Result<Parsed<'a, Expr>, Stop>
+) -> Result<Parsed<'a, Expr>, ReadStop>
     ensures shorter { IfOk result (λ r. length r.rest < length tokens.entry) }
     ensures gives { Gives (seen_read seen_expr) result (read_expr_after mark tokens.entry) }
 {
@@ -54,7 +54,7 @@ pub fn maybe_expr_after<'a>(
     alloc: Global,
     tokens: Cursor<'a>,
     mark: u8,
-) -> Result<Parsed<'a, Option<Expr>>, Stop>
+) -> Result<Parsed<'a, Option<Expr>>, ReadStop>
     ensures shorter { IfOk result (λ r. length r.rest ≤ length tokens.entry) }
     ensures gives { Gives (seen_read (option_map seen_expr)) result
         (read_maybe mark (read_expr_after mark) tokens.entry) }
@@ -74,7 +74,7 @@ pub fn maybe_expr_after<'a>(
 
 /// `[left]` or `[left:right]`.
 #[tactic(auto, unfolding(crate::specs::Reading::read_range))]
-fn read_range<'a>(alloc: Global, tokens: Cursor<'a>) -> Result<Parsed<'a, Range>, Stop>
+fn read_range<'a>(alloc: Global, tokens: Cursor<'a>) -> Result<Parsed<'a, Range>, ReadStop>
     ensures shorter { IfOk result (λ r. length r.rest < length tokens.entry) }
     ensures gives { Gives (seen_read seen_range) result (read_range tokens.entry) }
 {
@@ -96,7 +96,10 @@ fn read_range<'a>(alloc: Global, tokens: Cursor<'a>) -> Result<Parsed<'a, Range>
 }
 
 /// A range, if a `[` is the next token.
-pub fn maybe_range<'a>(alloc: Global, tokens: Cursor<'a>) -> Result<Parsed<'a, Option<Range>>, Stop>
+pub fn maybe_range<'a>(
+    alloc: Global,
+    tokens: Cursor<'a>,
+) -> Result<Parsed<'a, Option<Range>>, ReadStop>
     ensures shorter { IfOk result (λ r. length r.rest ≤ length tokens.entry) }
     ensures gives { Gives (seen_read (option_map seen_range)) result (read_maybe 91 read_range tokens.entry) }
 {
@@ -123,7 +126,7 @@ pub(crate) struct Located {
 }
 
 /// A number.
-fn read_number<'a>(alloc: Global, tokens: Cursor<'a>) -> Result<Parsed<'a, Located>, Stop>
+fn read_number<'a>(alloc: Global, tokens: Cursor<'a>) -> Result<Parsed<'a, Located>, ReadStop>
     ensures shorter { IfOk result (λ r. length r.rest < length tokens.entry) }
     ensures gives { Gives (seen_read seen_located) result (read_number tokens.entry) }
 {
@@ -137,9 +140,9 @@ fn read_number<'a>(alloc: Global, tokens: Cursor<'a>) -> Result<Parsed<'a, Locat
                 },
                 rest,
             }),
-            None => Err(Stop::At(left, None)),
+            None => Err(ReadStop::At(left, None)),
         },
-        None => Err(Stop::At(0, None)),
+        None => Err(ReadStop::At(0, None)),
     }
 }
 
@@ -149,7 +152,7 @@ fn read_path<'a>(
     alloc: Global,
     first: SmallText,
     tokens: Cursor<'a>,
-) -> Result<Parsed<'a, OneOrMore<SmallText>>, Stop>
+) -> Result<Parsed<'a, OneOrMore<SmallText>>, ReadStop>
     ensures shorter { IfOk result (λ r. length r.rest ≤ length tokens.entry) }
     ensures gives { Gives (seen_read (seen_few bytes_of)) result (read_path_after first.items tokens.entry) }
 {
@@ -166,7 +169,7 @@ fn named_after<'a>(
     alloc: Global,
     first: &Lexeme<'a>,
     tokens: Cursor<'a>,
-) -> Result<Parsed<'a, Located>, Stop>
+) -> Result<Parsed<'a, Located>, ReadStop>
     ensures shorter { IfOk result (λ r. length r.rest ≤ length tokens.entry) }
     ensures gives { Gives (seen_read seen_located) result
         (read_named_after (record { at = first.now.at; name = first.now.text.now }) tokens.entry) }
@@ -187,19 +190,19 @@ fn named_after<'a>(
 
 /// Names with `.` between them, and maybe a range.
 #[tactic(auto, unfolding(crate::specs::Reading::read_named_sig))]
-fn read_named_sig<'a>(alloc: Global, tokens: Cursor<'a>) -> Result<Parsed<'a, Located>, Stop>
+fn read_named_sig<'a>(alloc: Global, tokens: Cursor<'a>) -> Result<Parsed<'a, Located>, ReadStop>
     ensures shorter { IfOk result (λ r. length r.rest < length tokens.entry) }
     ensures gives { Gives (seen_read seen_located) result (read_named_sig tokens.entry) }
 {
     let left = tokens.len();
     match tokens.next() {
         Some((first, rest)) if first.is_name() => named_after(alloc, &first, rest),
-        _ => Err(Stop::At(left, None)),
+        _ => Err(ReadStop::At(left, None)),
     }
 }
 
 /// A signal without `~`.
-fn read_plain_sig<'a>(alloc: Global, tokens: Cursor<'a>) -> Result<Parsed<'a, Located>, Stop>
+fn read_plain_sig<'a>(alloc: Global, tokens: Cursor<'a>) -> Result<Parsed<'a, Located>, ReadStop>
     ensures shorter { IfOk result (λ r. length r.rest < length tokens.entry) }
     ensures gives { Gives (seen_read seen_located) result (read_plain_sig tokens.entry) }
 {
@@ -212,7 +215,7 @@ fn read_plain_sig<'a>(alloc: Global, tokens: Cursor<'a>) -> Result<Parsed<'a, Lo
 
 /// A signal after a `~`.
 #[tactic(auto, unfolding(crate::specs::Reading::read_inverted))]
-fn read_inverted<'a>(alloc: Global, tokens: Cursor<'a>) -> Result<Parsed<'a, Sig>, Stop>
+fn read_inverted<'a>(alloc: Global, tokens: Cursor<'a>) -> Result<Parsed<'a, Sig>, ReadStop>
     ensures shorter { IfOk result (λ r. length r.rest < length tokens.entry) }
     ensures gives { Gives (seen_read seen_sig) result (read_inverted tokens.entry) }
 {
@@ -230,7 +233,7 @@ fn read_inverted<'a>(alloc: Global, tokens: Cursor<'a>) -> Result<Parsed<'a, Sig
 
 /// A signal.
 #[tactic(auto, unfolding(crate::specs::Reading::read_sig, crate::specs::Reading::read_straight))]
-pub fn read_sig<'a>(alloc: Global, tokens: Cursor<'a>) -> Result<Parsed<'a, Sig>, Stop>
+pub fn read_sig<'a>(alloc: Global, tokens: Cursor<'a>) -> Result<Parsed<'a, Sig>, ReadStop>
     ensures shorter { IfOk result (λ r. length r.rest < length tokens.entry) }
     ensures gives { Gives (seen_read seen_sig) result (read_sig tokens.entry) }
 {
@@ -250,7 +253,7 @@ pub fn read_sig<'a>(alloc: Global, tokens: Cursor<'a>) -> Result<Parsed<'a, Sig>
 
 /// Signals with `,` between them.
 #[tactic(auto, using(crate::proofs::SignalLaws::sig_shrinks), unfolding(crate::specs::Reading::read_sigs))]
-pub fn read_sigs<'a>(alloc: Global, tokens: Cursor<'a>) -> Result<Parsed<'a, List<Sig>>, Stop>
+pub fn read_sigs<'a>(alloc: Global, tokens: Cursor<'a>) -> Result<Parsed<'a, List<Sig>>, ReadStop>
     ensures shorter { IfOk result (λ r. length r.rest < length tokens.entry) }
     ensures gives { Gives (seen_read (seen_list seen_sig)) result (read_sigs tokens.entry) }
 {

@@ -7,7 +7,7 @@ ghost use Rattle.icl_expressions.specs.Seen.{seen_read, seen_sign, Gives};
 ghost use Rattle.icl_expressions.specs.Reading.{begins, is_sign, operator_of, read_operator};
 
 use crate::reading::Parsed;
-use crate::stop::Stop;
+use crate::stop::ReadStop;
 use icl_lexer::{Cursor, Lexeme, Limit, Sign};
 use ij_text::Place;
 
@@ -90,16 +90,16 @@ fn operator<'a>(
     rest: Cursor<'a>,
     used: u32,
     lone: bool,
-) -> Result<Parsed<'a, SignAt>, Stop>
+) -> Result<Parsed<'a, SignAt>, ReadStop>
     ensures shorter { IfOk result (λ r. length r.rest ≡ length rest.entry) }
     ensures bounded { IfOk result (λ r. used < 256) }
     ensures gives { Gives (seen_read seen_sign) result
         (operator_of (256 - used) lone (option_map seen_sign sign) left rest.entry) }
 {
     match sign {
-        None => Err(Stop::At(left, None)),
-        Some(_) if used >= 256 => Err(Stop::At(left, Some(Limit::OfExpression))),
-        Some(_) if lone => Err(Stop::At(left, None)),
+        None => Err(ReadStop::At(left, None)),
+        Some(_) if used >= 256 => Err(ReadStop::At(left, Some(Limit::OfExpression))),
+        Some(_) if lone => Err(ReadStop::At(left, None)),
         Some(value) => Ok(Parsed { value, rest }),
     }
 }
@@ -110,7 +110,7 @@ pub(crate) fn read_sum_sign<'a>(
     tokens: Cursor<'a>,
     used: u32,
     lone: bool,
-) -> Result<Parsed<'a, SignAt>, Stop>
+) -> Result<Parsed<'a, SignAt>, ReadStop>
     ensures shorter { IfOk result (λ r. length r.rest < length tokens.entry) }
     ensures bounded { IfOk result (λ r. used < 256) }
     ensures gives { Gives (seen_read seen_sign) result
@@ -119,7 +119,7 @@ pub(crate) fn read_sum_sign<'a>(
     let left = tokens.len();
     match tokens.next() {
         Some((t, rest)) => operator(sum_sign(&t), left, rest, used, lone),
-        None => Err(Stop::At(0, None)),
+        None => Err(ReadStop::At(0, None)),
     }
 }
 
@@ -129,7 +129,7 @@ pub(crate) fn read_product_sign<'a>(
     tokens: Cursor<'a>,
     used: u32,
     lone: bool,
-) -> Result<Parsed<'a, SignAt>, Stop>
+) -> Result<Parsed<'a, SignAt>, ReadStop>
     ensures shorter { IfOk result (λ r. length r.rest < length tokens.entry) }
     ensures bounded { IfOk result (λ r. used < 256) }
     ensures gives { Gives (seen_read seen_sign) result
@@ -138,6 +138,6 @@ pub(crate) fn read_product_sign<'a>(
     let left = tokens.len();
     match tokens.next() {
         Some((t, rest)) => operator(product_sign(&t), left, rest, used, lone),
-        None => Err(Stop::At(0, None)),
+        None => Err(ReadStop::At(0, None)),
     }
 }

@@ -14,8 +14,8 @@ use Rattle.icl_lexer.specs.Values.{SeenModule}
 use Rattle.icl_lexer.specs.Modules.{design}
 use Rattle.icl_parser.specs.declared.fault.ParseFault.{ParseFault}
 use Rattle.icl_parser.specs.declared.fault.ParseFault.TheVariants.{OutOfMemory, LeftOut, ExprLimit, Syntax}
-use Rattle.icl_expressions.specs.declared.stop.Stop.{Stop}
-use Rattle.icl_expressions.specs.declared.stop.Stop.TheVariants.{Memory, At}
+use Rattle.icl_expressions.specs.declared.stop.ReadStop.{ReadStop}
+use Rattle.icl_expressions.specs.declared.stop.ReadStop.TheVariants.{Memory, At}
 use Rattle.icl_expressions.specs.Seen.{Fails}
 use Rattle.icl_expressions.specs.Reading.{begins, any, read_put}
 use Rattle.icl_parser.specs.Reading.{read_module, read_design, whole_design}
@@ -41,7 +41,7 @@ pub modules_go_on : (bs : List SeenModule) (ts : List SeenToken) (x : List SeenM
     → more_modules x.0 x.1 ≡ more_modules bs ts
 modules_go_on = go_on appended any (λ (bs : List SeenModule). read_module) (λ bs. reads_shrink module_reads)
 
-modules_round_fails : (bs : List SeenModule) (ts : List SeenToken) (stop : Stop) → begins any ts ≡ true
+modules_round_fails : (bs : List SeenModule) (ts : List SeenToken) (stop : ReadStop) → begins any ts ≡ true
     → Fails stop (read_put read_module appended bs ts) → Fails stop (more_modules bs ts)
 modules_round_fails =
     round_fails appended any (λ (bs : List SeenModule). read_module) (λ bs. reads_shrink module_reads)
@@ -50,7 +50,7 @@ modules_end : (bs : List SeenModule) (ts : List SeenToken)
     → begins any ts ≡ false → more_modules bs ts ≡ Ok (bs, ts)
 modules_end = ends appended any (λ (bs : List SeenModule). read_module) (λ bs. reads_shrink module_reads)
 
-pub design_fails : (all : List SeenToken) (bs : List SeenModule) (ts : List SeenToken) (stop : Stop)
+pub design_fails : (all : List SeenToken) (bs : List SeenModule) (ts : List SeenToken) (stop : ReadStop)
     → begins any ts ≡ true → Fails stop (read_put read_module appended bs ts)
     → more_modules bs ts ≡ read_design all → Fails stop (whole_design all)
 unfolding whole_design

@@ -15,7 +15,7 @@ ghost use Rattle.icl_parser.specs.Reading.{read_braced_body, read_body};
 
 use crate::words::prop_word;
 use icl_expressions::{
-    Parsed, Stop, before_close, begins_mark, maybe_expr_after, pushed, read_decimal, read_mark,
+    Parsed, ReadStop, before_close, begins_mark, maybe_expr_after, pushed, read_decimal, read_mark,
     read_name, read_sig, read_sigs, read_value,
 };
 use icl_lexer::{BodyKind, Cursor, Expr, Lexeme, Prop, PropKeyword, Sig, SmallText};
@@ -125,7 +125,7 @@ pub(crate) struct Said {
 pub(crate) fn read_attribute_said<'a>(
     alloc: Global,
     tokens: Cursor<'a>,
-) -> Result<Parsed<'a, Said>, Stop>
+) -> Result<Parsed<'a, Said>, ReadStop>
     ensures shorter { IfOk result (λ r. length r.rest < length tokens.entry) }
     ensures gives { Gives (seen_read seen_said) result (read_attribute_said tokens.entry) }
 {
@@ -141,7 +141,7 @@ pub(crate) fn read_attribute_said<'a>(
 }
 
 /// A signal alone, as a list.
-fn one_sig<'a>(alloc: Global, tokens: Cursor<'a>) -> Result<Parsed<'a, List<Sig>>, Stop>
+fn one_sig<'a>(alloc: Global, tokens: Cursor<'a>) -> Result<Parsed<'a, List<Sig>>, ReadStop>
     ensures shorter { IfOk result (λ r. length r.rest < length tokens.entry) }
     ensures gives { Gives (seen_read (seen_list seen_sig)) result (read_one_sig tokens.entry) }
 {
@@ -154,7 +154,7 @@ fn read_sources<'a>(
     alloc: Global,
     owner: BodyKind,
     tokens: Cursor<'a>,
-) -> Result<Parsed<'a, List<Sig>>, Stop>
+) -> Result<Parsed<'a, List<Sig>>, ReadStop>
     ensures shorter { IfOk result (λ r. length r.rest < length tokens.entry) }
     ensures gives { Gives (seen_read (seen_list seen_sig)) result (read_sources owner tokens.entry) }
 {
@@ -182,7 +182,7 @@ fn read_prop_after<'a>(
     owner: BodyKind,
     word: PropKeyword,
     tokens: Cursor<'a>,
-) -> Result<Parsed<'a, Option<Prop>>, Stop>
+) -> Result<Parsed<'a, Option<Prop>>, ReadStop>
     ensures shorter { IfOk result (λ r. length r.rest ≤ length tokens.entry) }
     ensures gives { Gives (seen_read (option_map seen_prop)) result
         (read_prop_after owner word tokens.entry) }
@@ -236,7 +236,7 @@ fn read_free_prop<'a>(
     owner: BodyKind,
     props: &[Prop],
     tokens: Cursor<'a>,
-) -> Result<Parsed<'a, PropKeyword>, Stop>
+) -> Result<Parsed<'a, PropKeyword>, ReadStop>
     ensures shorter { IfOk result (λ r. length r.rest < length tokens.entry) }
     ensures gives { Gives (seen_read same) result
         (read_free_prop owner (map seen_prop props.now) tokens.entry) }
@@ -245,9 +245,9 @@ fn read_free_prop<'a>(
     match tokens.next() {
         Some((t, rest)) => match free_prop(owner, props, &t) {
             Some(value) => Ok(Parsed { value, rest }),
-            None => Err(Stop::At(left, None)),
+            None => Err(ReadStop::At(left, None)),
         },
-        None => Err(Stop::At(0, None)),
+        None => Err(ReadStop::At(0, None)),
     }
 }
 
@@ -258,7 +258,7 @@ fn read_property<'a>(
     owner: BodyKind,
     props: &[Prop],
     tokens: Cursor<'a>,
-) -> Result<Parsed<'a, Option<Prop>>, Stop>
+) -> Result<Parsed<'a, Option<Prop>>, ReadStop>
     ensures shorter { IfOk result (λ r. length r.rest < length tokens.entry) }
     ensures gives { Gives (seen_read (option_map seen_prop)) result
         (read_property owner (map seen_prop props.now) tokens.entry) }
@@ -295,7 +295,7 @@ fn with_property<'a>(
     alloc: Global,
     owner: BodyKind,
     props: Parsed<'a, List<Prop>>,
-) -> Result<Parsed<'a, List<Prop>>, Stop>
+) -> Result<Parsed<'a, List<Prop>>, ReadStop>
     ensures shorter { IfOk result (λ r. length r.rest < length props.entry.rest) }
     ensures gives { Gives (seen_read (seen_list seen_prop)) result
         (read_put (read_property owner (seen_list seen_prop props.entry.value)) with_property
@@ -314,7 +314,7 @@ fn read_properties<'a>(
     alloc: Global,
     owner: BodyKind,
     tokens: Cursor<'a>,
-) -> Result<Parsed<'a, List<Prop>>, Stop>
+) -> Result<Parsed<'a, List<Prop>>, ReadStop>
     ensures shorter { IfOk result (λ r. length r.rest ≤ length tokens.entry) }
     ensures gives { Gives (seen_read (seen_list seen_prop)) result (read_properties owner tokens.entry) }
 {
@@ -335,13 +335,13 @@ fn read_body_end<'a>(
     props: List<Prop>,
     tokens: Cursor<'a>,
     mark: u8,
-) -> Result<Parsed<'a, List<Prop>>, Stop>
+) -> Result<Parsed<'a, List<Prop>>, ReadStop>
     ensures shorter { IfOk result (λ r. length r.rest < length tokens.entry) }
     ensures gives { Gives (seen_read (seen_list seen_prop)) result
         (read_body_end owner (seen_list seen_prop props) mark tokens.entry) }
 {
     if lacks(owner, props.as_slice()) {
-        return Err(Stop::At(tokens.len(), None));
+        return Err(ReadStop::At(tokens.len(), None));
     }
     let end = read_mark(tokens, mark)?;
     Ok(Parsed {
@@ -356,7 +356,7 @@ fn read_braced<'a>(
     alloc: Global,
     owner: BodyKind,
     tokens: Cursor<'a>,
-) -> Result<Parsed<'a, List<Prop>>, Stop>
+) -> Result<Parsed<'a, List<Prop>>, ReadStop>
     ensures shorter { IfOk result (λ r. length r.rest < length tokens.entry) }
     ensures gives { Gives (seen_read (seen_list seen_prop)) result (read_braced_body owner tokens.entry) }
 {
@@ -371,7 +371,7 @@ pub(crate) fn read_body<'a>(
     alloc: Global,
     owner: BodyKind,
     tokens: Cursor<'a>,
-) -> Result<Parsed<'a, List<Prop>>, Stop>
+) -> Result<Parsed<'a, List<Prop>>, ReadStop>
     ensures shorter { IfOk result (λ r. length r.rest < length tokens.entry) }
     ensures gives { Gives (seen_read (seen_list seen_prop)) result (read_body owner tokens.entry) }
 {

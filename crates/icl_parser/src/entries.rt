@@ -5,7 +5,7 @@ ghost use Rattle.ij_text.specs.Symbol.{appended};
 ghost use Rattle.icl_expressions.specs.Seen.{seen_read, Gives};
 ghost use Rattle.icl_expressions.specs.Reading.{Reading, Shrinks, read_put, more, read_many, read_braced};
 
-use icl_expressions::{Parsed, Stop, before_close, pushed, read_mark};
+use icl_expressions::{Parsed, ReadStop, before_close, pushed, read_mark};
 use icl_lexer::Cursor;
 use ij_bits::{List, beside};
 use std::alloc::Global;
@@ -21,7 +21,7 @@ pub(crate) trait Entry: Sized {
     ghost reader: { Reading Plain };
 
     /// Reads it.
-    fn read<'a>(alloc: Global, tokens: Cursor<'a>) -> Result<Parsed<'a, Self>, Stop>
+    fn read<'a>(alloc: Global, tokens: Cursor<'a>) -> Result<Parsed<'a, Self>, ReadStop>
         ensures shorter { IfOk result (λ r. length r.rest < length tokens.entry) }
         ensures gives { Gives (seen_read view) result (reader tokens.entry) };
 }
@@ -30,7 +30,7 @@ pub(crate) trait Entry: Sized {
 pub(crate) fn with_next<'a, T: Entry + Drop>(
     alloc: Global,
     entries: Parsed<'a, List<T>>,
-) -> Result<Parsed<'a, List<T>>, Stop>
+) -> Result<Parsed<'a, List<T>>, ReadStop>
     ensures shorter { IfOk result (λ r. length r.rest < length entries.entry.rest) }
     ensures gives { Gives (seen_read (seen_list T.view)) result
         (read_put T.reader appended (seen_list T.view entries.entry.value) entries.entry.rest) }
@@ -43,7 +43,7 @@ pub(crate) fn with_next<'a, T: Entry + Drop>(
 pub(crate) fn read_after<'a, T: Entry + Drop>(
     alloc: Global,
     first: Parsed<'a, List<T>>,
-) -> Result<Parsed<'a, List<T>>, Stop>
+) -> Result<Parsed<'a, List<T>>, ReadStop>
     requires { Shrinks T.reader }
     ensures shorter { IfOk result (λ r. length r.rest ≤ length first.entry.rest) }
     ensures gives { Gives (seen_read (seen_list T.view)) result
@@ -60,7 +60,7 @@ pub(crate) fn read_after<'a, T: Entry + Drop>(
 pub(crate) fn read_many<'a, T: Entry + Drop>(
     alloc: Global,
     tokens: Cursor<'a>,
-) -> Result<Parsed<'a, List<T>>, Stop>
+) -> Result<Parsed<'a, List<T>>, ReadStop>
     requires { Shrinks T.reader }
     ensures shorter { IfOk result (λ r. length r.rest ≤ length tokens.entry) }
     ensures gives { Gives (seen_read (seen_list T.view)) result (read_many T.reader tokens.entry) }
@@ -76,7 +76,7 @@ pub(crate) fn read_many<'a, T: Entry + Drop>(
 pub(crate) fn read_braced<'a, T: Entry + Drop>(
     alloc: Global,
     tokens: Cursor<'a>,
-) -> Result<Parsed<'a, List<T>>, Stop>
+) -> Result<Parsed<'a, List<T>>, ReadStop>
     requires { Shrinks T.reader }
     ensures shorter { IfOk result (λ r. length r.rest < length tokens.entry) }
     ensures gives { Gives (seen_read (seen_list T.view)) result

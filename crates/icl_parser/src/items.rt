@@ -17,8 +17,8 @@ use crate::bodies::{read_attribute_said, read_body};
 use crate::entries::{Entry, read_after, read_braced};
 use crate::words::bind_word;
 use icl_expressions::{
-    Parsed, Stop, begins_mark, maybe_expr_after, maybe_range, pushed, read_expr_after, read_mark,
-    read_name, read_parted, read_sig, read_sigs, read_word,
+    Parsed, ReadStop, begins_mark, maybe_expr_after, maybe_range, pushed, read_expr_after,
+    read_mark, read_name, read_parted, read_sig, read_sigs, read_word,
 };
 use icl_lexer::{Bind, BindKeyword, BodyKind, Cursor, MuxRow, PortKind, Range, What};
 use ij_bits::{List, beside};
@@ -45,7 +45,7 @@ fn read_port_range<'a>(
     alloc: Global,
     owner: BodyKind,
     tokens: Cursor<'a>,
-) -> Result<Parsed<'a, Option<Range>>, Stop>
+) -> Result<Parsed<'a, Option<Range>>, ReadStop>
     ensures shorter { IfOk result (λ r. length r.rest ≤ length tokens.entry) }
     ensures gives { Gives (seen_read (option_map seen_range)) result (read_port_range owner tokens.entry) }
 {
@@ -64,7 +64,7 @@ pub(crate) fn read_port<'a>(
     alloc: Global,
     kind: PortKind,
     tokens: Cursor<'a>,
-) -> Result<Parsed<'a, What>, Stop>
+) -> Result<Parsed<'a, What>, ReadStop>
     ensures shorter { IfOk result (λ r. length r.rest < length tokens.entry) }
     ensures gives { Gives (seen_read seen_what) result (read_port kind tokens.entry) }
 {
@@ -83,7 +83,10 @@ pub(crate) fn read_port<'a>(
 
 /// A scan register after its name.
 #[tactic(auto, unfolding(crate::specs::Reading::read_register))]
-pub(crate) fn read_register<'a>(alloc: Global, tokens: Cursor<'a>) -> Result<Parsed<'a, What>, Stop>
+pub(crate) fn read_register<'a>(
+    alloc: Global,
+    tokens: Cursor<'a>,
+) -> Result<Parsed<'a, What>, ReadStop>
     ensures shorter { IfOk result (λ r. length r.rest < length tokens.entry) }
     ensures gives { Gives (seen_read seen_what) result (read_register tokens.entry) }
 {
@@ -103,7 +106,10 @@ pub(crate) fn read_register<'a>(alloc: Global, tokens: Cursor<'a>) -> Result<Par
 
 /// An alias after its name.
 #[tactic(auto, unfolding(crate::specs::Reading::read_alias))]
-pub(crate) fn read_alias<'a>(alloc: Global, tokens: Cursor<'a>) -> Result<Parsed<'a, What>, Stop>
+pub(crate) fn read_alias<'a>(
+    alloc: Global,
+    tokens: Cursor<'a>,
+) -> Result<Parsed<'a, What>, ReadStop>
     ensures shorter { IfOk result (λ r. length r.rest < length tokens.entry) }
     ensures gives { Gives (seen_read seen_what) result (read_alias tokens.entry) }
 {
@@ -128,7 +134,7 @@ pub(crate) fn read_parameter<'a>(
     alloc: Global,
     local: bool,
     tokens: Cursor<'a>,
-) -> Result<Parsed<'a, What>, Stop>
+) -> Result<Parsed<'a, What>, ReadStop>
     ensures shorter { IfOk result (λ r. length r.rest < length tokens.entry) }
     ensures gives { Gives (seen_read seen_what) result (read_parameter local tokens.entry) }
 {
@@ -145,7 +151,7 @@ pub(crate) fn read_parameter<'a>(
 pub(crate) fn read_attribute<'a>(
     alloc: Global,
     tokens: Cursor<'a>,
-) -> Result<Parsed<'a, What>, Stop>
+) -> Result<Parsed<'a, What>, ReadStop>
     ensures shorter { IfOk result (λ r. length r.rest < length tokens.entry) }
     ensures gives { Gives (seen_read seen_what) result (read_attribute tokens.entry) }
 {
@@ -168,7 +174,7 @@ impl Entry for MuxRow {
 
     ghost reader = { read_row };
 
-    fn read<'a>(alloc: Global, tokens: Cursor<'a>) -> Result<Parsed<'a, MuxRow>, Stop> {
+    fn read<'a>(alloc: Global, tokens: Cursor<'a>) -> Result<Parsed<'a, MuxRow>, ReadStop> {
         let values = read_parted(alloc, tokens, b'|')?;
         let (values, colon) = beside(values.value, read_mark(values.rest, b':'))?;
         let (values, source) = beside(values, read_sig(alloc, colon.rest))?;
@@ -186,7 +192,7 @@ impl Entry for MuxRow {
 
 /// One row or more, up to a `}` or the end of the tokens.
 #[tactic(auto, using(crate::proofs::ItemLaws::row_shrinks), unfolding(crate::specs::Reading::read_rows))]
-fn read_rows<'a>(alloc: Global, tokens: Cursor<'a>) -> Result<Parsed<'a, List<MuxRow>>, Stop>
+fn read_rows<'a>(alloc: Global, tokens: Cursor<'a>) -> Result<Parsed<'a, List<MuxRow>>, ReadStop>
     ensures shorter { IfOk result (λ r. length r.rest < length tokens.entry) }
     ensures gives { Gives (seen_read (seen_list seen_row)) result (read_rows tokens.entry) }
 {
@@ -197,7 +203,7 @@ fn read_rows<'a>(alloc: Global, tokens: Cursor<'a>) -> Result<Parsed<'a, List<Mu
 
 /// A multiplexer after its name.
 #[tactic(auto, unfolding(crate::specs::Reading::read_mux))]
-pub(crate) fn read_mux<'a>(alloc: Global, tokens: Cursor<'a>) -> Result<Parsed<'a, What>, Stop>
+pub(crate) fn read_mux<'a>(alloc: Global, tokens: Cursor<'a>) -> Result<Parsed<'a, What>, ReadStop>
     ensures shorter { IfOk result (λ r. length r.rest < length tokens.entry) }
     ensures gives { Gives (seen_read seen_what) result (read_mux tokens.entry) }
 {
@@ -221,7 +227,7 @@ fn read_bound_port<'a>(
     alloc: Global,
     at: Place,
     tokens: Cursor<'a>,
-) -> Result<Parsed<'a, Bind>, Stop>
+) -> Result<Parsed<'a, Bind>, ReadStop>
     ensures shorter { IfOk result (λ r. length r.rest < length tokens.entry) }
     ensures gives { Gives (seen_read seen_bind) result (read_bound_port at tokens.entry) }
 {
@@ -248,7 +254,7 @@ fn read_bound_parameter<'a>(
     alloc: Global,
     at: Place,
     tokens: Cursor<'a>,
-) -> Result<Parsed<'a, Bind>, Stop>
+) -> Result<Parsed<'a, Bind>, ReadStop>
     ensures shorter { IfOk result (λ r. length r.rest < length tokens.entry) }
     ensures gives { Gives (seen_read seen_bind) result (read_bound_parameter at tokens.entry) }
 {
@@ -266,7 +272,7 @@ fn read_bound_parameter<'a>(
 
 /// An attribute of an instance after its word.
 #[tactic(auto, unfolding(crate::specs::Reading::read_bound_attribute))]
-fn read_bound_attribute<'a>(alloc: Global, tokens: Cursor<'a>) -> Result<Parsed<'a, Bind>, Stop>
+fn read_bound_attribute<'a>(alloc: Global, tokens: Cursor<'a>) -> Result<Parsed<'a, Bind>, ReadStop>
     ensures shorter { IfOk result (λ r. length r.rest < length tokens.entry) }
     ensures gives { Gives (seen_read seen_bind) result (read_bound_attribute tokens.entry) }
 {
@@ -286,7 +292,7 @@ fn read_bind_after<'a>(
     at: Place,
     word: BindKeyword,
     tokens: Cursor<'a>,
-) -> Result<Parsed<'a, Bind>, Stop>
+) -> Result<Parsed<'a, Bind>, ReadStop>
     ensures shorter { IfOk result (λ r. length r.rest < length tokens.entry) }
     ensures gives { Gives (seen_read seen_bind) result (read_bind_after at word tokens.entry) }
 {
@@ -304,7 +310,7 @@ pub(crate) struct BindBegin {
     pub word: BindKeyword,
 }
 
-fn read_bind_begin<'a>(tokens: Cursor<'a>) -> Result<Parsed<'a, BindBegin>, Stop>
+fn read_bind_begin<'a>(tokens: Cursor<'a>) -> Result<Parsed<'a, BindBegin>, ReadStop>
     ensures shorter { IfOk result (λ r. length r.rest < length tokens.entry) }
     ensures gives { Gives (seen_read seen_bind_begin) result (read_bind_begin tokens.entry) }
 {
@@ -315,9 +321,9 @@ fn read_bind_begin<'a>(tokens: Cursor<'a>) -> Result<Parsed<'a, BindBegin>, Stop
                 value: BindBegin { at: t.at, word },
                 rest,
             }),
-            None => Err(Stop::At(left, None)),
+            None => Err(ReadStop::At(left, None)),
         },
-        None => Err(Stop::At(0, None)),
+        None => Err(ReadStop::At(0, None)),
     }
 }
 
@@ -330,7 +336,7 @@ impl Entry for Bind {
 
     ghost reader = { read_bind };
 
-    fn read<'a>(alloc: Global, tokens: Cursor<'a>) -> Result<Parsed<'a, Bind>, Stop> {
+    fn read<'a>(alloc: Global, tokens: Cursor<'a>) -> Result<Parsed<'a, Bind>, ReadStop> {
         let begin = read_bind_begin(tokens)?;
         let bind = read_bind_after(alloc, begin.value.at, begin.value.word, begin.rest)?;
         let (bind, end) = beside(bind.value, read_mark(bind.rest, b';'))?;
@@ -343,7 +349,7 @@ impl Entry for Bind {
 
 /// A `;`, or bindings in braces.
 #[tactic(auto, using(crate::proofs::ItemLaws::bind_shrinks), unfolding(crate::specs::Reading::read_binds, crate::specs::Reading::read_braced_binds, crate::specs::Reading::read_many_binds))]
-fn read_binds<'a>(alloc: Global, tokens: Cursor<'a>) -> Result<Parsed<'a, List<Bind>>, Stop>
+fn read_binds<'a>(alloc: Global, tokens: Cursor<'a>) -> Result<Parsed<'a, List<Bind>>, ReadStop>
     ensures shorter { IfOk result (λ r. length r.rest < length tokens.entry) }
     ensures gives { Gives (seen_read (seen_list seen_bind)) result (read_binds tokens.entry) }
 {
@@ -359,7 +365,10 @@ fn read_binds<'a>(alloc: Global, tokens: Cursor<'a>) -> Result<Parsed<'a, List<B
 
 /// An instance after its name.
 #[tactic(auto, unfolding(crate::specs::Reading::read_child))]
-pub(crate) fn read_child<'a>(alloc: Global, tokens: Cursor<'a>) -> Result<Parsed<'a, What>, Stop>
+pub(crate) fn read_child<'a>(
+    alloc: Global,
+    tokens: Cursor<'a>,
+) -> Result<Parsed<'a, What>, ReadStop>
     ensures shorter { IfOk result (λ r. length r.rest < length tokens.entry) }
     ensures gives { Gives (seen_read seen_what) result (read_child tokens.entry) }
 {

@@ -18,7 +18,7 @@ use crate::bodies::read_attribute_said;
 use crate::entries::{Entry, read_braced, read_many};
 use crate::words::{link_kind, member_word};
 use icl_expressions::{
-    Parsed, Stop, before_close, pushed, read_mark, read_name, read_value, read_word,
+    Parsed, ReadStop, before_close, pushed, read_mark, read_name, read_value, read_word,
 };
 use icl_lexer::{Cursor, EnumWord, LinkInstr, LinkKind, MemberKeyword, SmallText, What};
 use ij_bits::{List, OutOfMemory, beside};
@@ -35,7 +35,7 @@ impl Entry for EnumWord {
 
     ghost reader = { read_enum_word };
 
-    fn read<'a>(alloc: Global, tokens: Cursor<'a>) -> Result<Parsed<'a, EnumWord>, Stop> {
+    fn read<'a>(alloc: Global, tokens: Cursor<'a>) -> Result<Parsed<'a, EnumWord>, ReadStop> {
         let name = read_name(alloc, tokens)?;
         let (name, equals) = beside(name.value, read_mark(name.rest, b'='))?;
         let (name, value) = beside(name, read_value(alloc, equals.rest))?;
@@ -53,7 +53,10 @@ impl Entry for EnumWord {
 
 /// An enumeration after its name.
 #[tactic(auto, using(crate::proofs::DesignLaws::enum_word_shrinks), unfolding(crate::specs::Reading::read_words, crate::specs::Reading::read_many_words))]
-pub(crate) fn read_words<'a>(alloc: Global, tokens: Cursor<'a>) -> Result<Parsed<'a, What>, Stop>
+pub(crate) fn read_words<'a>(
+    alloc: Global,
+    tokens: Cursor<'a>,
+) -> Result<Parsed<'a, What>, ReadStop>
     ensures shorter { IfOk result (λ r. length r.rest < length tokens.entry) }
     ensures gives { Gives (seen_read seen_what) result (read_words tokens.entry) }
 {
@@ -66,7 +69,7 @@ pub(crate) fn read_words<'a>(alloc: Global, tokens: Cursor<'a>) -> Result<Parsed
 
 // ---- interfaces
 
-fn read_member_word<'a>(tokens: Cursor<'a>) -> Result<Parsed<'a, MemberKeyword>, Stop>
+fn read_member_word<'a>(tokens: Cursor<'a>) -> Result<Parsed<'a, MemberKeyword>, ReadStop>
     ensures shorter { IfOk result (λ r. length r.rest < length tokens.entry) }
     ensures gives { Gives (seen_read same) result (read_member_word tokens.entry) }
 {
@@ -74,9 +77,9 @@ fn read_member_word<'a>(tokens: Cursor<'a>) -> Result<Parsed<'a, MemberKeyword>,
     match tokens.next() {
         Some((t, rest)) => match member_word(&t) {
             Some(value) => Ok(Parsed { value, rest }),
-            None => Err(Stop::At(left, None)),
+            None => Err(ReadStop::At(left, None)),
         },
-        None => Err(Stop::At(0, None)),
+        None => Err(ReadStop::At(0, None)),
     }
 }
 
@@ -85,7 +88,7 @@ fn read_member_after<'a>(
     alloc: Global,
     word: MemberKeyword,
     tokens: Cursor<'a>,
-) -> Result<Parsed<'a, Option<SmallText>>, Stop>
+) -> Result<Parsed<'a, Option<SmallText>>, ReadStop>
     ensures shorter { IfOk result (λ r. length r.rest < length tokens.entry) }
     ensures gives { Gives (seen_read (option_map bytes_of)) result (read_member_after word tokens.entry) }
 {
@@ -109,7 +112,10 @@ fn read_member_after<'a>(
 
 /// A member of an interface up to its `;`.
 #[tactic(auto, unfolding(crate::specs::Reading::read_member))]
-fn read_member<'a>(alloc: Global, tokens: Cursor<'a>) -> Result<Parsed<'a, Option<SmallText>>, Stop>
+fn read_member<'a>(
+    alloc: Global,
+    tokens: Cursor<'a>,
+) -> Result<Parsed<'a, Option<SmallText>>, ReadStop>
     ensures shorter { IfOk result (λ r. length r.rest < length tokens.entry) }
     ensures gives { Gives (seen_read (option_map bytes_of)) result (read_member tokens.entry) }
 {
@@ -142,7 +148,7 @@ fn with<'a>(
 fn with_next_member<'a>(
     alloc: Global,
     names: Parsed<'a, List<SmallText>>,
-) -> Result<Parsed<'a, List<SmallText>>, Stop>
+) -> Result<Parsed<'a, List<SmallText>>, ReadStop>
     ensures shorter { IfOk result (λ r. length r.rest < length names.entry.rest) }
     ensures gives { Gives (seen_read (seen_list bytes_of)) result
         (read_put read_member with_member (seen_list bytes_of names.entry.value) names.entry.rest) }
@@ -153,7 +159,10 @@ fn with_next_member<'a>(
 
 /// Members of an interface up to a `}` or the end of the tokens.
 #[tactic(auto, unfolding(crate::specs::Reading::read_members))]
-fn read_members<'a>(alloc: Global, tokens: Cursor<'a>) -> Result<Parsed<'a, List<SmallText>>, Stop>
+fn read_members<'a>(
+    alloc: Global,
+    tokens: Cursor<'a>,
+) -> Result<Parsed<'a, List<SmallText>>, ReadStop>
     ensures shorter { IfOk result (λ r. length r.rest ≤ length tokens.entry) }
     ensures gives { Gives (seen_read (seen_list bytes_of)) result (read_members tokens.entry) }
 {
@@ -172,7 +181,7 @@ fn read_members<'a>(alloc: Global, tokens: Cursor<'a>) -> Result<Parsed<'a, List
 pub(crate) fn read_interface<'a>(
     alloc: Global,
     tokens: Cursor<'a>,
-) -> Result<Parsed<'a, What>, Stop>
+) -> Result<Parsed<'a, What>, ReadStop>
     ensures shorter { IfOk result (λ r. length r.rest < length tokens.entry) }
     ensures gives { Gives (seen_read seen_what) result (read_interface tokens.entry) }
 {
@@ -195,7 +204,7 @@ pub(crate) struct Selected {
 }
 
 #[tactic(auto, unfolding(crate::specs::Reading::read_selected))]
-fn read_selected<'a>(alloc: Global, tokens: Cursor<'a>) -> Result<Parsed<'a, Selected>, Stop>
+fn read_selected<'a>(alloc: Global, tokens: Cursor<'a>) -> Result<Parsed<'a, Selected>, ReadStop>
     ensures shorter { IfOk result (λ r. length r.rest < length tokens.entry) }
     ensures gives { Gives (seen_read seen_selected) result (read_selected tokens.entry) }
 {
@@ -215,7 +224,7 @@ fn read_selected<'a>(alloc: Global, tokens: Cursor<'a>) -> Result<Parsed<'a, Sel
 
 /// The `ScanInterface` of an instruction.
 #[tactic(auto, unfolding(crate::specs::Reading::read_selecting))]
-fn read_selecting<'a>(alloc: Global, tokens: Cursor<'a>) -> Result<Parsed<'a, Selected>, Stop>
+fn read_selecting<'a>(alloc: Global, tokens: Cursor<'a>) -> Result<Parsed<'a, Selected>, ReadStop>
     ensures shorter { IfOk result (λ r. length r.rest < length tokens.entry) }
     ensures gives { Gives (seen_read seen_selected) result (read_selecting tokens.entry) }
 {
@@ -238,7 +247,7 @@ impl Entry for LinkInstr {
 
     ghost reader = { read_instruction };
 
-    fn read<'a>(alloc: Global, tokens: Cursor<'a>) -> Result<Parsed<'a, LinkInstr>, Stop> {
+    fn read<'a>(alloc: Global, tokens: Cursor<'a>) -> Result<Parsed<'a, LinkInstr>, ReadStop> {
         let name = read_name(alloc, tokens)?;
         let (name, open) = beside(name.value, read_mark(name.rest, b'{'))?;
         let (name, selected) = beside(name, read_selecting(alloc, open.rest))?;
@@ -257,7 +266,7 @@ impl Entry for LinkInstr {
 
 /// The entity of an access link.
 #[tactic(auto, unfolding(crate::specs::Reading::read_entity))]
-fn read_entity<'a>(alloc: Global, tokens: Cursor<'a>) -> Result<Parsed<'a, SmallText>, Stop>
+fn read_entity<'a>(alloc: Global, tokens: Cursor<'a>) -> Result<Parsed<'a, SmallText>, ReadStop>
     ensures shorter { IfOk result (λ r. length r.rest < length tokens.entry) }
     ensures gives { Gives (seen_read bytes_of) result (read_entity tokens.entry) }
 {
@@ -270,7 +279,7 @@ fn read_entity<'a>(alloc: Global, tokens: Cursor<'a>) -> Result<Parsed<'a, Small
     })
 }
 
-fn read_link_kind<'a>(tokens: Cursor<'a>) -> Result<Parsed<'a, LinkKind>, Stop>
+fn read_link_kind<'a>(tokens: Cursor<'a>) -> Result<Parsed<'a, LinkKind>, ReadStop>
     ensures shorter { IfOk result (λ r. length r.rest < length tokens.entry) }
     ensures gives { Gives (seen_read same) result (read_link_kind tokens.entry) }
 {
@@ -278,15 +287,15 @@ fn read_link_kind<'a>(tokens: Cursor<'a>) -> Result<Parsed<'a, LinkKind>, Stop>
     match tokens.next() {
         Some((t, rest)) => match link_kind(&t) {
             Some(value) => Ok(Parsed { value, rest }),
-            None => Err(Stop::At(left, None)),
+            None => Err(ReadStop::At(left, None)),
         },
-        None => Err(Stop::At(0, None)),
+        None => Err(ReadStop::At(0, None)),
     }
 }
 
 /// An access link after its name.
 #[tactic(auto, using(crate::proofs::DesignLaws::instruction_shrinks), unfolding(crate::specs::Reading::read_link, crate::specs::Reading::read_instructions))]
-pub(crate) fn read_link<'a>(alloc: Global, tokens: Cursor<'a>) -> Result<Parsed<'a, What>, Stop>
+pub(crate) fn read_link<'a>(alloc: Global, tokens: Cursor<'a>) -> Result<Parsed<'a, What>, ReadStop>
     ensures shorter { IfOk result (λ r. length r.rest < length tokens.entry) }
     ensures gives { Gives (seen_read seen_what) result (read_link tokens.entry) }
 {

@@ -14,7 +14,7 @@ use crate::items::{
 };
 use crate::links::{read_interface, read_link, read_words};
 use crate::words::item_word;
-use icl_expressions::{Parsed, Stop, read_name, read_word};
+use icl_expressions::{Parsed, ReadStop, read_name, read_word};
 use icl_lexer::{Cursor, Item, ItemKeyword, Module, What};
 use ij_bits::{List, beside};
 use ij_text::Place;
@@ -27,7 +27,7 @@ pub(crate) struct ItemBegin {
     pub word: ItemKeyword,
 }
 
-fn read_item_begin<'a>(tokens: Cursor<'a>) -> Result<Parsed<'a, ItemBegin>, Stop>
+fn read_item_begin<'a>(tokens: Cursor<'a>) -> Result<Parsed<'a, ItemBegin>, ReadStop>
     ensures shorter { IfOk result (λ r. length r.rest < length tokens.entry) }
     ensures gives { Gives (seen_read seen_item_begin) result (read_item_begin tokens.entry) }
 {
@@ -38,9 +38,9 @@ fn read_item_begin<'a>(tokens: Cursor<'a>) -> Result<Parsed<'a, ItemBegin>, Stop
                 value: ItemBegin { at: t.at, word },
                 rest,
             }),
-            None => Err(Stop::At(left, None)),
+            None => Err(ReadStop::At(left, None)),
         },
-        None => Err(Stop::At(0, None)),
+        None => Err(ReadStop::At(0, None)),
     }
 }
 
@@ -50,7 +50,7 @@ fn read_meaning_after<'a>(
     alloc: Global,
     word: ItemKeyword,
     tokens: Cursor<'a>,
-) -> Result<Parsed<'a, What>, Stop>
+) -> Result<Parsed<'a, What>, ReadStop>
     ensures shorter { IfOk result (λ r. length r.rest < length tokens.entry) }
     ensures gives { Gives (seen_read seen_what) result (read_meaning_after word tokens.entry) }
 {
@@ -77,7 +77,7 @@ impl Entry for Item {
 
     ghost reader = { read_item };
 
-    fn read<'a>(alloc: Global, tokens: Cursor<'a>) -> Result<Parsed<'a, Item>, Stop> {
+    fn read<'a>(alloc: Global, tokens: Cursor<'a>) -> Result<Parsed<'a, Item>, ReadStop> {
         let begin = read_item_begin(tokens)?;
         let name = read_name(alloc, begin.rest)?;
         let (name, what) = beside(
@@ -104,7 +104,7 @@ impl Entry for Module {
 
     ghost reader = { read_module };
 
-    fn read<'a>(alloc: Global, tokens: Cursor<'a>) -> Result<Parsed<'a, Module>, Stop> {
+    fn read<'a>(alloc: Global, tokens: Cursor<'a>) -> Result<Parsed<'a, Module>, ReadStop> {
         let word = read_word(tokens, b"Module")?;
         let name = read_name(alloc, word.rest)?;
         let (name, items) = beside(name.value, read_braced(alloc, name.rest))?;
@@ -121,7 +121,7 @@ impl Entry for Module {
 
 /// Modules up to the end.
 #[tactic(auto, unfolding(crate::specs::Reading::read_design))]
-pub(crate) fn read_design<'a>(alloc: Global, tokens: Cursor<'a>) -> Result<List<Module>, Stop>
+pub(crate) fn read_design<'a>(alloc: Global, tokens: Cursor<'a>) -> Result<List<Module>, ReadStop>
     ensures { Gives (seen_list seen_module) result (whole_design tokens.entry) }
 {
     let mut modules = Parsed {

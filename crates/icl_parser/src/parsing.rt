@@ -9,7 +9,7 @@ ghost use Rattle.icl_parser.specs.Refusals.{Blocks, IsFaultAt, IsFaultOf, OnRefu
 use crate::fault::ParseFault;
 use crate::modules::read_design;
 use crate::words::is_left_out;
-use icl_expressions::Stop;
+use icl_expressions::ReadStop;
 use icl_lexer::{Cursor, Design, Lexeme, Limit};
 use ij_bits::OutOfMemory;
 use ij_text::{end_of, name_of};
@@ -95,8 +95,8 @@ pub fn parse(alloc: Global, src: &[u8], tokens: Cursor<'_>) -> Result<Design, Pa
     let start = tokens.again();
     match read_design(alloc, tokens) {
         Ok(modules) => Ok(Design { modules }),
-        Err(Stop::Memory) => Err(ParseFault::OutOfMemory),
-        Err(Stop::At(left, why)) => {
+        Err(ReadStop::Memory) => Err(ParseFault::OutOfMemory),
+        Err(ReadStop::At(left, why)) => {
             let rest = rest_of(start, left);
             Err(fault(alloc, src, &rest, why)?)
         }

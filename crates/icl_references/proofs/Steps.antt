@@ -7,7 +7,7 @@ use Rattle.ij_text.specs.declared.Place.{Place}
 use Rattle.icl_declarations.specs.Faults.{Answer, Fault, Fails, ◌>>=◌}
 use Rattle.icl_declarations.proofs.Each.{fails_along}
 use Rattle.icl_frames.specs.FirstPass.{Frame}
-use Rattle.icl_references.specs.Names.{Here, Target, named, inside, path_from}
+use Rattle.icl_references.specs.Names.{Here, CellMember, named, inside, path_from}
 use Rattle.icl_references.specs.Targets.{child_named}
 use Rattle.icl_references.proofs.Everywhere.{left_at}
 
@@ -48,7 +48,7 @@ name_fails frames here at name names last e h = fails_along e _ _
 -- ---- in a loop over a path
 
 pub stops_at : (frames : List Frame) (here : Here) (at : Place) (front : List (Items ℕ)) (i : ℕ) (x : Items ℕ)
-    (last : List ℕ) (e : Option Fault) (whole : Answer Target)
+    (last : List ℕ) (e : Option Fault) (whole : Answer CellMember)
     → i < length front → x ≡ get_or front i x → Fails e (child_named frames here at x.items)
     → path_from frames here at (map bytes_of (drop i front) ++ last ∷ []) ≡ whole → Fails e whole
 stops_at frames here at front i x last e whole lt is h goes_on =

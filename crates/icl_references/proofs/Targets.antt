@@ -19,7 +19,8 @@ use Rattle.icl_declarations.specs.Ranges.{width, has_index, position_of, runs_al
 use Rattle.icl_declarations.specs.Ranges.{indices, named_in, one_bit}
 use Rattle.icl_frames.specs.FirstPass.{Frame}
 use Rattle.icl_references.specs.Names.{Here, here_of, Member, members_from, members, member_that}
-use Rattle.icl_references.specs.Names.{known_member, named, child_cell, known_cell, inside, Target, path_from}
+use Rattle.icl_references.specs.Names.{known_member, named, child_cell, known_cell, inside, CellMember}
+use Rattle.icl_references.specs.Names.{path_from}
 use Rattle.icl_references.specs.Signals.{bit_of, bits_of}
 use Rattle.icl_frames.proofs.Answering.{both, ok_is}
 use Rattle.std.proofs.lemmas.Option.{same_Some}
@@ -97,7 +98,7 @@ IsHere frames here = slice_get frames here.number ≡ Some here.frame
 abbrev pub IsMember : Frame → Member → Type 0
 IsMember frame m = slice_get (members frame) m.part ≡ Some m
 
-pub record IsTarget (frames : List Frame) (t : Target) : Type 0 where
+pub record IsTarget (frames : List Frame) (t : CellMember) : Type 0 where
   pub cell : IsHere frames t.here
   pub part : IsMember t.here.frame t.member
 
@@ -150,7 +151,7 @@ inside_there frames here at name (AnInterface ports) h e = absurd cc
 inside_there frames here at name (ALink kind entity instrs) h e = absurd cc
 inside_there frames here at name (AnAttribute value) h e = absurd cc
 
-pub path_there : (frames : List Frame) (here : Here) (at : Place) (path : List (List ℕ)) (t : Target)
+pub path_there : (frames : List Frame) (here : Here) (at : Place) (path : List (List ℕ)) (t : CellMember)
     → IsHere frames here → path_from frames here at path ≡ Ok t → IsTarget frames t
 path_there frames here at [] t i h = absurd cc
 path_there frames here at (name ∷ []) t i h =
@@ -216,12 +217,12 @@ abbrev pub IsThere : List Frame → Ref → Type 0
 IsThere frames (Fixed b) = Unit {0}
 IsThere frames (Bit cell part pos inverted) = IsBitThere frames cell part pos
 
-pub bit_there : (frames : List Frame) (t : Target) (inverted : Bool) (pos : ℕ) → IsTarget frames t
+pub bit_there : (frames : List Frame) (t : CellMember) (inverted : Bool) (pos : ℕ) → IsTarget frames t
     → pos < width t.member.bounds → IsThere frames (bit_of t inverted pos)
 bit_there frames t inverted pos i lt =
     record { frame = t.here.frame; member = t.member; cell_is = i.cell; part_is = i.part; within = lt }
 
-bits_from : (frames : List Frame) (t : Target) (inverted : Bool) (low n : ℕ)
+bits_from : (frames : List Frame) (t : CellMember) (inverted : Bool) (low n : ℕ)
     → IsTarget frames t → low + n ≤ width t.member.bounds
     → AllByRecursion (IsThere frames) (map (bit_of t inverted) (range_with_len low n))
 bits_from frames t inverted low zero i le = tt
@@ -230,7 +231,7 @@ bits_from frames t inverted low (suc n) i le = (
   bits_from frames t inverted (low + 1) n i (omega (arith, le)),
 )
 
-pub bits_there : (frames : List Frame) (t : Target) (inverted : Bool) (s : Stretch) → IsTarget frames t
+pub bits_there : (frames : List Frame) (t : CellMember) (inverted : Bool) (s : Stretch) → IsTarget frames t
     → IsWithin t.member.bounds s → AllByRecursion (IsThere frames) (bits_of t inverted s)
 bits_there frames t inverted s i lt =
     elim (leb_tells s.low (s.high + 1)) [

@@ -20,14 +20,14 @@ use Rattle.icl_declarations.specs.declared.ranges.Bounds.{Bounds}
 use Rattle.icl_declarations.specs.declared.ranges.Stretch.{Stretch}
 use Rattle.icl_declarations.specs.Ranges.{width, positions, indices, named_in}
 use Rattle.icl_frames.specs.FirstPass.{Frame}
-use Rattle.icl_references.specs.Names.{Here, Target, path_from}
+use Rattle.icl_references.specs.Names.{Here, CellMember, path_from}
 
 -- ---- bits of a part
 
-abbrev pub bit_of : Target → Bool → ℕ → Ref
+abbrev pub bit_of : CellMember → Bool → ℕ → Ref
 bit_of t inverted pos = Bit t.here.number t.member.part pos inverted
 
-abbrev pub bits_of : Target → Bool → Stretch → List Ref
+abbrev pub bits_of : CellMember → Bool → Stretch → List Ref
 bits_of t inverted s = map (bit_of t inverted) (positions s)
 
 abbrev pub is_own : List (List ℕ) → Bool
@@ -102,7 +102,7 @@ module _ (frames : List Frame) (here : Here) where
   register_named at b None = Ok tt
   register_named at b (Some r) = indices params r >>= λ i. refuse_if (not (is_scan_out_of b i)) (WrongKind at)
 
-  abbrev pub scan_named : Place → Target → Option SeenRange → Answer (Unit {0})
+  abbrev pub scan_named : Place → CellMember → Option SeenRange → Answer (Unit {0})
   scan_named at t range =
       cond (is_register t.member.item.what) (register_named at t.member.bounds range)
       (named_in params t.member.bounds range >>= λ s. Ok tt)

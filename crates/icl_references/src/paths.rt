@@ -14,7 +14,7 @@ use std::alloc::Global;
 
 /// A part of a cell.
 #[derive(Clone, Copy, Drop)]
-pub(crate) struct Target<'a> {
+pub(crate) struct CellMember<'a> {
     /// The cell, by its number.
     pub cell: u32,
     /// The part.
@@ -45,12 +45,12 @@ fn target_named<'a>(
     here: u32,
     at: Place,
     name: &[u8],
-) -> Result<Target<'a>, ElabFault>
+) -> Result<CellMember<'a>, ElabFault>
     requires { IsHere tables.now here }
     ensures { Gives (seen_target tables.now) result (target_named (here_in tables.now here) at name.now) }
 {
     let member = tables.named(alloc, here, at, name)?;
-    Ok(Target { cell: here, member })
+    Ok(CellMember { cell: here, member })
 }
 
 /// What a path of names leads to from a cell (IEEE 1687-2014, ICL: names with dots between them): each name
@@ -61,7 +61,7 @@ pub(crate) fn path_from<'a>(
     here: u32,
     at: Place,
     path: &[SmallText],
-) -> Result<Target<'a>, ElabFault>
+) -> Result<CellMember<'a>, ElabFault>
     requires { IsHere tables.now here }
     ensures { Gives (seen_target tables.now) result
         (path_from (frames_of tables.now) (here_in tables.now here) at (map bytes_of path.now)) }

@@ -16,7 +16,7 @@ ghost use Rattle.icl_references.specs.Targets.{seen_target};
 
 use crate::bits::{bits_between, constants, side_by_side};
 use crate::hier::Ref;
-use crate::paths::{Target, path_from};
+use crate::paths::{CellMember, path_from};
 use crate::sources::{is_alias_source, is_data_source, is_scan_source};
 use crate::tables::Tables;
 use crate::values::number_bits;
@@ -68,7 +68,7 @@ fn scan_named(
     tables: &Tables,
     here: u32,
     at: Place,
-    t: &Target,
+    t: &CellMember,
     range: &Option<Range>,
 ) -> Result<(), ElabFault>
     requires { IsHere tables.now here }

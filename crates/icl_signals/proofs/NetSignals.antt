@@ -25,12 +25,12 @@ use Rattle.net_graph.specs.declared.net.Spot.{Spot}
 use Rattle.net_graph.specs.declared.net.Thing.{Thing}
 use Rattle.net_graph.specs.Named.{IsBitOf, IsPointOf, IsSignalOf, IsInputOf, width_of, output_widths}
 use Rattle.icl_signals.specs.declared.wires.Wire.{Wire}
-use Rattle.icl_signals.specs.declared.wires.StandsFor.TheVariants.{Another, ARegisterBit, AMuxOutput}
-use Rattle.icl_signals.specs.declared.wires.StandsFor.TheVariants.{AnInstrumentOutput, TheEntry, AFreeInput}
-use Rattle.icl_signals.specs.declared.wires.StandsFor.TheVariants.{NothingAtAll}
+use Rattle.icl_signals.specs.declared.wires.Driver.TheVariants.{Another, ARegisterBit, AMuxOutput}
+use Rattle.icl_signals.specs.declared.wires.Driver.TheVariants.{AnInstrumentOutput, TheEntry, AFreeInput}
+use Rattle.icl_signals.specs.declared.wires.Driver.TheVariants.{NothingAtAll}
 use Rattle.icl_signals.specs.declared.wires.End.{End}
 use Rattle.icl_signals.specs.declared.wires.End.TheVariants.{AtConstant, AtBit, InLoop}
-use Rattle.icl_signals.specs.Moves.{Entry, is_instrument_cell, stands_for}
+use Rattle.icl_signals.specs.Moves.{Entry, is_instrument_cell, driver_of}
 use Rattle.icl_signals.specs.Traces.{signal_bits, follow, trace}
 use Rattle.icl_signals.specs.Laws.{Stop}
 use Rattle.icl_signals.specs.PlainNets.{OutputOf, seen_reg, seen_mux, seen_output, seen_inst, seen_node}
@@ -127,17 +127,17 @@ net_shaped cells net n =
 -- ---- what a trace's end says
 
 module _ (cells : List CellOf) (entry : Wire) where
-  abbrev pub Told : End → Type 0
-  Told (AtConstant b) = Unit {0}
-  Told (AtBit w inverted stands) = stands_for cells entry w ≡ stands
-  Told InLoop = Unit {0}
+  abbrev pub TrueEnds : End → Type 0
+  TrueEnds (AtConstant b) = Unit {0}
+  TrueEnds (AtBit w inverted stands) = driver_of cells entry w ≡ stands
+  TrueEnds InLoop = Unit {0}
 
-  told : (n : ℕ) (a : Stop) (e : End) → EndsOrGoesOn cells entry n a e → Told e
+  told : (n : ℕ) (a : Stop) (e : End) → EndsOrGoesOn cells entry n a e → TrueEnds e
   told n a (AtBit w inverted stands) h = h.1
   told n a (AtConstant b) h = tt
   told n a InLoop h = tt
 
-  pub trace_told : (r : Ref) → Told (trace cells entry r)
+  pub trace_told : (r : Ref) → TrueEnds (trace cells entry r)
   unfolding trace
   trace_told (Fixed b) = tt
   trace_told (RefBit cell part pos turned) =
@@ -185,22 +185,22 @@ module _ (cells : List CellOf) (entry : Wire) (net : Net) (shaped : IsShaped cel
       let wide = register_wide w.cell w.part p e t in
       omega (arith, lt, wide)
 
-  at_register : (w : Wire) → stands_for cells entry w ≡ ARegisterBit
+  at_register : (w : Wire) → driver_of cells entry w ≡ ARegisterBit
       → IsAtPart ARegisterBit (is_instrument_cell cells w.cell) (part_at cells w.cell w.part)
   at_register w e = subst (λ s. IsAtSome s (is_instrument_cell cells w.cell) (part_at cells w.cell w.part)) e
       (stands_at cells entry w)
 
-  at_mux : (w : Wire) → stands_for cells entry w ≡ AMuxOutput
+  at_mux : (w : Wire) → driver_of cells entry w ≡ AMuxOutput
       → IsAtPart AMuxOutput (is_instrument_cell cells w.cell) (part_at cells w.cell w.part)
   at_mux w e = subst (λ s. IsAtSome s (is_instrument_cell cells w.cell) (part_at cells w.cell w.part)) e
       (stands_at cells entry w)
 
-  at_output : (w : Wire) → stands_for cells entry w ≡ AnInstrumentOutput
+  at_output : (w : Wire) → driver_of cells entry w ≡ AnInstrumentOutput
       → IsAtPart AnInstrumentOutput (is_instrument_cell cells w.cell) (part_at cells w.cell w.part)
   at_output w e = subst (λ s. IsAtSome s (is_instrument_cell cells w.cell) (part_at cells w.cell w.part)) e
       (stands_at cells entry w)
 
-  output_there_in : (w : Wire) → stands_for cells entry w ≡ AnInstrumentOutput → IsBitThere cells w
+  output_there_in : (w : Wire) → driver_of cells entry w ≡ AnInstrumentOutput → IsBitThere cells w
       → w.pos < get_or (output_widths net (instrument_number cells w.cell))
       (output_number cells w.cell w.part) 0
   output_there_in w e h =
@@ -282,7 +282,7 @@ module _ (cells : List CellOf) (entry : Wire) (net : Net) (shaped : IsShaped cel
 
   -- ---- scan sources
 
-  register_there : (w : Wire) → stands_for cells entry w ≡ ARegisterBit
+  register_there : (w : Wire) → driver_of cells entry w ≡ ARegisterBit
       → number_among is_register cells w.cell w.part < length net.regs.items
   register_there w e =
       let a = at_register w e in
@@ -293,7 +293,7 @@ module _ (cells : List CellOf) (entry : Wire) (net : Net) (shaped : IsShaped cel
       let long = shaped.regs in
       omega (arith, lt, long)
 
-  mux_there : (w : Wire) → stands_for cells entry w ≡ AMuxOutput
+  mux_there : (w : Wire) → driver_of cells entry w ≡ AMuxOutput
       → number_among is_mux cells w.cell w.part < length net.muxes.items
   mux_there w e =
       let a = at_mux w e in
@@ -303,7 +303,7 @@ module _ (cells : List CellOf) (entry : Wire) (net : Net) (shaped : IsShaped cel
       let long = shaped.muxes in
       omega (arith, lt, long)
 
-  scan_good : (at : Place) (e : End) (p : Point) → Told cells entry e
+  scan_good : (at : Place) (e : End) (p : Point) → TrueEnds cells entry e
       → scan_end cells at e ≡ Ok p → IsPointOf net p
   scan_good at (AtConstant b) p t h = absurd cc
   scan_good at (AtBit w inverted ARegisterBit) p t h = subst (IsPointOf net)

@@ -8,7 +8,7 @@ use Rattle.icl_signals.specs.declared.entries.PartAt.{PartAt}
 use Rattle.icl_signals.specs.Moves.{entry_of, entries}
 use Rattle.icl_signals.specs.Connecting.{entries_that}
 use Rattle.icl_signals.specs.Inside.{numbered}
-use Rattle.icl_signals.specs.Told.{seen_entry, ArePlaced}
+use Rattle.icl_signals.specs.TrueEnds.{seen_entry, ArePlaced}
 use Rattle.icl_signals.proofs.Joined.{Known, all_known}
 use Rattle.ij_bits.proofs.Everywhere.{all_kept}
 

@@ -7,15 +7,15 @@ use Rattle.icl_references.specs.Roles.{Role, ScanInput, ScanOutput, DataInput, D
 use Rattle.icl_references.specs.Roles.{AScanRegister, AScanMux, AnAliasOf, AnInstance, AnInterfaceOf}
 use Rattle.icl_references.specs.Roles.{AnAccessLink, PartOf, CellOf, part_of, part_at}
 use Rattle.icl_signals.specs.declared.wires.Wire.{Wire}
-use Rattle.icl_signals.specs.declared.wires.StandsFor.{StandsFor}
-use Rattle.icl_signals.specs.declared.wires.StandsFor.TheVariants.{Another, ARegisterBit, AMuxOutput}
-use Rattle.icl_signals.specs.declared.wires.StandsFor.TheVariants.{AnInstrumentOutput, TheEntry, AFreeInput}
-use Rattle.icl_signals.specs.declared.wires.StandsFor.TheVariants.{NothingAtAll}
+use Rattle.icl_signals.specs.declared.wires.Driver.{Driver}
+use Rattle.icl_signals.specs.declared.wires.Driver.TheVariants.{Another, ARegisterBit, AMuxOutput}
+use Rattle.icl_signals.specs.declared.wires.Driver.TheVariants.{AnInstrumentOutput, TheEntry, AFreeInput}
+use Rattle.icl_signals.specs.declared.wires.Driver.TheVariants.{NothingAtAll}
 use Rattle.icl_signals.specs.Moves.{is_top, is_instrument_cell, one_ref, role_move, part_move, is_entry}
-use Rattle.icl_signals.specs.Moves.{stands_for}
+use Rattle.icl_signals.specs.Moves.{driver_of}
 
 -- what is so of the role, and of whether the cell is an instrument
-abbrev pub IsOfRole : StandsFor → Bool → Role → Type 0
+abbrev pub IsOfRole : Driver → Bool → Role → Type 0
 IsOfRole ARegisterBit instrument role = is_register role ≡ true
 IsOfRole AMuxOutput instrument role = is_mux role ≡ true
 IsOfRole AnInstrumentOutput instrument role = (is_data_out role ≡ true) × (instrument ≡ true)
@@ -49,13 +49,13 @@ role_is top instrument (AnInterfaceOf ports) pos = tt
 role_is top instrument (AnAccessLink selections) pos = tt
 
 -- a part that is there, of such a role
-pub record IsAtPart (stands : StandsFor) (instrument : Bool) (o : Option PartOf) : Type 0 where
+pub record IsAtPart (stands : Driver) (instrument : Bool) (o : Option PartOf) : Type 0 where
   pub part : PartOf
   pub there : o ≡ Some part
   pub role : IsOfRole stands instrument part.role
 
 -- at a bit of a register or an instrument's output, or at a multiplexer's output
-abbrev pub IsAtSome : StandsFor → Bool → Option PartOf → Type 0
+abbrev pub IsAtSome : Driver → Bool → Option PartOf → Type 0
 IsAtSome ARegisterBit instrument o = IsAtPart ARegisterBit instrument o
 IsAtSome AMuxOutput instrument o = IsAtPart AMuxOutput instrument o
 IsAtSome AnInstrumentOutput instrument o = IsAtPart AnInstrumentOutput instrument o
@@ -64,7 +64,7 @@ IsAtSome TheEntry instrument o = Unit {0}
 IsAtSome AFreeInput instrument o = Unit {0}
 IsAtSome NothingAtAll instrument o = Unit {0}
 
-at_part : (stands : StandsFor) (instrument : Bool) (p : PartOf)
+at_part : (stands : Driver) (instrument : Bool) (p : PartOf)
     → IsOfRole stands instrument p.role → IsAtSome stands instrument (Some p)
 at_part ARegisterBit instrument p h = record { part = p; there = refl; role = h }
 at_part AMuxOutput instrument p h = record { part = p; there = refl; role = h }
@@ -81,8 +81,8 @@ part_is top instrument (Some p) pos =
     at_part (role_move top instrument p.role pos) instrument p (role_is top instrument p.role pos)
 
 pub stands_at : (cells : List CellOf) (entry w : Wire)
-    → IsAtSome (stands_for cells entry w) (is_instrument_cell cells w.cell) (part_at cells w.cell w.part)
-unfolding stands_for
+    → IsAtSome (driver_of cells entry w) (is_instrument_cell cells w.cell) (part_at cells w.cell w.part)
+unfolding driver_of
 stands_at cells entry w = by_test (is_entry entry w)
   where
     by_test : (b : Bool)

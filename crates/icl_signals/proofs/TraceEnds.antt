@@ -7,13 +7,13 @@ use Rattle.icl_references.specs.declared.hier.Ref.TheVariants.{Fixed, Bit}
 use Rattle.icl_references.specs.Roles.{CellOf}
 use Rattle.icl_elab.specs.Laws.{IsRefOf, AreWired}
 use Rattle.icl_signals.specs.declared.wires.Wire.{Wire}
-use Rattle.icl_signals.specs.declared.wires.StandsFor.{StandsFor}
-use Rattle.icl_signals.specs.declared.wires.StandsFor.TheVariants.{Another, ARegisterBit, AMuxOutput}
-use Rattle.icl_signals.specs.declared.wires.StandsFor.TheVariants.{AnInstrumentOutput, TheEntry, AFreeInput}
-use Rattle.icl_signals.specs.declared.wires.StandsFor.TheVariants.{NothingAtAll}
+use Rattle.icl_signals.specs.declared.wires.Driver.{Driver}
+use Rattle.icl_signals.specs.declared.wires.Driver.TheVariants.{Another, ARegisterBit, AMuxOutput}
+use Rattle.icl_signals.specs.declared.wires.Driver.TheVariants.{AnInstrumentOutput, TheEntry, AFreeInput}
+use Rattle.icl_signals.specs.declared.wires.Driver.TheVariants.{NothingAtAll}
 use Rattle.icl_signals.specs.declared.wires.End.{End}
 use Rattle.icl_signals.specs.declared.wires.End.TheVariants.{AtConstant, AtBit, InLoop}
-use Rattle.icl_signals.specs.Moves.{stands_for}
+use Rattle.icl_signals.specs.Moves.{driver_of}
 use Rattle.icl_signals.specs.Traces.{from_move, follow, signal_bits, trace}
 use Rattle.icl_signals.proofs.Joined.{move_good}
 
@@ -23,16 +23,16 @@ IsBitThere cells w = IsRefOf cells (Bit w.cell w.part w.pos false)
 module _ (cells : List CellOf) (entry : Wire) where
   abbrev pub EndsThere : End → Type 0
   EndsThere (AtConstant b) = Unit {0}
-  EndsThere (AtBit w inverted stands) = IsBitThere cells w × (stands_for cells entry w ≡ stands)
+  EndsThere (AtBit w inverted stands) = IsBitThere cells w × (driver_of cells entry w ≡ stands)
   EndsThere InLoop = Unit {0}
 
   module _ (wired : AreWired cells) where
     follow_there : (n : ℕ) (inverted : Bool) (w : Wire) → IsBitThere cells w
         → EndsThere (follow cells entry n inverted w)
     follow_there zero inverted w h = tt
-    follow_there (suc n) inverted w h = by_move (stands_for cells entry w) refl (λ b v. follow_there n b v)
+    follow_there (suc n) inverted w h = by_move (driver_of cells entry w) refl (λ b v. follow_there n b v)
       where
-        by_move : (s : StandsFor) → stands_for cells entry w ≡ s
+        by_move : (s : Driver) → driver_of cells entry w ≡ s
             → ((b : Bool) (v : Wire) → IsBitThere cells v → EndsThere (follow cells entry n b v))
             → EndsThere (from_move (follow cells entry n) inverted w s)
         by_move (Another (Fixed c)) e again = tt

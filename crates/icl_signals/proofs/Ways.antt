@@ -5,16 +5,16 @@ use Rattle.ij_bits.specs.BitLists.{flip_if}
 use Rattle.icl_references.specs.declared.hier.Ref.TheVariants.{Fixed, Bit}
 use Rattle.icl_references.specs.Roles.{CellOf}
 use Rattle.icl_signals.specs.declared.wires.Wire.{Wire}
-use Rattle.icl_signals.specs.declared.wires.StandsFor.{StandsFor}
-use Rattle.icl_signals.specs.declared.wires.StandsFor.TheVariants.{Another, ARegisterBit, AMuxOutput}
-use Rattle.icl_signals.specs.declared.wires.StandsFor.TheVariants.{AnInstrumentOutput, TheEntry, AFreeInput}
-use Rattle.icl_signals.specs.declared.wires.StandsFor.TheVariants.{NothingAtAll}
-use Rattle.icl_signals.specs.Moves.{stands_for}
+use Rattle.icl_signals.specs.declared.wires.Driver.{Driver}
+use Rattle.icl_signals.specs.declared.wires.Driver.TheVariants.{Another, ARegisterBit, AMuxOutput}
+use Rattle.icl_signals.specs.declared.wires.Driver.TheVariants.{AnInstrumentOutput, TheEntry, AFreeInput}
+use Rattle.icl_signals.specs.declared.wires.Driver.TheVariants.{NothingAtAll}
+use Rattle.icl_signals.specs.Moves.{driver_of}
 use Rattle.icl_signals.specs.declared.wires.End.{End}
 use Rattle.icl_signals.specs.declared.wires.End.TheVariants.{AtConstant, AtBit, InLoop}
 use Rattle.icl_signals.specs.declared.found.Found.{Found}
 use Rattle.icl_signals.specs.Traces.{from_move, follow}
-use Rattle.icl_signals.specs.Told.{IsTold}
+use Rattle.icl_signals.specs.TrueEnds.{IsTrueEnd}
 use Rattle.icl_signals.specs.Found.{turned_end, IsFound}
 use Rattle.ij_bits.proofs.Tests.{up_to_or_past}
 
@@ -50,7 +50,7 @@ between false false = (false, refl)
 -- ---- numbers
 
 module _ (cells : List CellOf) (entry : Wire) where
-  pub told_turned : (t : Bool) (e : End) → IsTold cells entry e → IsTold cells entry (turned_end t e)
+  pub told_turned : (t : Bool) (e : End) → IsTrueEnd cells entry e → IsTrueEnd cells entry (turned_end t e)
   told_turned t (AtConstant b) h = h
   told_turned t (AtBit w inverted stands) h = h
   told_turned t InLoop h = h
@@ -59,9 +59,9 @@ module _ (cells : List CellOf) (entry : Wire) where
   turned : (n : ℕ) (t i : Bool) (w : Wire)
       → follow cells entry n (flip_if t i) w ≡ turned_end t (follow cells entry n i w)
   turned zero t i w = refl
-  turned (suc n) t i w = by_stands (stands_for cells entry w) (λ j v. turned n t j v)
+  turned (suc n) t i w = by_stands (driver_of cells entry w) (λ j v. turned n t j v)
     where
-      by_stands : (s : StandsFor) → ((j : Bool) (v : Wire)
+      by_stands : (s : Driver) → ((j : Bool) (v : Wire)
           → follow cells entry n (flip_if t j) v ≡ turned_end t (follow cells entry n j v))
           → from_move (follow cells entry n) (flip_if t i) w s
           ≡ turned_end t (from_move (follow cells entry n) i w s)
@@ -92,7 +92,7 @@ module _ (cells : List CellOf) (entry : Wire) where
         ends = λ n le.
             ap (λ c. follow cells entry n c v) (sym (flip_same j)) ∙ turned n j j v
             ∙ ap (turned_end j) (sym (move n) ∙ h.ends (suc n) (omega (arith, looks, le))) ∙ sym e;
-        told = subst (IsTold cells entry) (sym e) (told_turned j f.end h.told);
+        told = subst (IsTrueEnd cells entry) (sym e) (told_turned j f.end h.told);
       }
 
   -- ---- a trace on its way
@@ -151,7 +151,7 @@ module _ (cells : List CellOf) (entry : Wire) where
   -- it ends with the next look
   pub ended : (start : Wire) (k : ℕ) (i : Bool) (w : Wire) (f : Found) → IsOnWay start k i w
       → ((n : ℕ) → follow cells entry (suc n) i w ≡ f.end) → f.looks ≡ k + 1
-      → IsTold cells entry f.end → IsFound cells entry start f
+      → IsTrueEnd cells entry f.end → IsFound cells entry start f
   ended start k i w f h look looks told =
       record {
         ends = λ n le.
@@ -173,7 +173,7 @@ module _ (cells : List CellOf) (entry : Wire) where
             let enough : f.looks ≤ left = omega (arith, looks, le) in
             ap (λ c. follow cells entry c false start) m ∙ h.rest left
             ∙ from_found w f found left i enough ∙ sym e;
-        told = subst (IsTold cells entry) (sym e) (told_turned i f.end found.told);
+        told = subst (IsTrueEnd cells entry) (sym e) (told_turned i f.end found.told);
       }
 
   -- it comes back to a bit that it met

@@ -9,7 +9,7 @@ use Rattle.icl_signals.specs.declared.wires.End.TheVariants.{AtConstant, AtBit, 
 use Rattle.icl_signals.specs.declared.found.Found.{Found}
 use Rattle.icl_signals.specs.declared.found.Note.{Note}
 use Rattle.icl_signals.specs.Traces.{follow}
-use Rattle.icl_signals.specs.Told.{IsTold}
+use Rattle.icl_signals.specs.TrueEnds.{IsTrueEnd}
 
 -- an end, or that of the inverse
 abbrev pub turned_end : Bool → End → End
@@ -20,7 +20,7 @@ turned_end turned InLoop = InLoop
 -- where the trace of a bit ends
 pub record IsFound (cells : List CellOf) (entry w : Wire) (f : Found) : Type 0 where
   pub ends : (n : ℕ) → f.looks ≤ n → follow cells entry n false w ≡ f.end
-  pub told : IsTold cells entry f.end
+  pub told : IsTrueEnd cells entry f.end
 
 abbrev pub IsNoted : List CellOf → Wire → Option Note → Type 0
 IsNoted cells entry None = Unit {0}

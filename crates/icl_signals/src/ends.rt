@@ -4,11 +4,11 @@ ghost use Rattle.ij_text.specs.Options.{same};
 ghost use Rattle.icl_elab.specs.WellFormed.{is_mux};
 ghost use Rattle.icl_signals.specs.Refusals.{Gives};
 ghost use Rattle.icl_signals.specs.Wirings.{IsWiring, cells_of};
-ghost use Rattle.icl_signals.specs.Moves.{stands_for};
-ghost use Rattle.icl_signals.specs.Told.{IsTold};
+ghost use Rattle.icl_signals.specs.Moves.{driver_of};
+ghost use Rattle.icl_signals.specs.TrueEnds.{IsTrueEnd};
 ghost use Rattle.net_graph.specs.declared.net.Sig.TheVariants.{Out};
-ghost use Rattle.icl_signals.specs.declared.wires.StandsFor.TheVariants.{ARegisterBit, AMuxOutput};
-ghost use Rattle.icl_signals.specs.declared.wires.StandsFor.TheVariants.{AnInstrumentOutput};
+ghost use Rattle.icl_signals.specs.declared.wires.Driver.TheVariants.{ARegisterBit, AMuxOutput};
+ghost use Rattle.icl_signals.specs.declared.wires.Driver.TheVariants.{AnInstrumentOutput};
 ghost use Rattle.icl_signals.specs.Connecting.{constant, register_bit, data_end, scan_end, data_from};
 ghost use Rattle.icl_signals.specs.Connecting.{scan_from, select_from, input_from, signal_from, or_absent};
 ghost use Rattle.icl_signals.specs.Connecting.{number_among, instrument_number, output_number};
@@ -16,7 +16,7 @@ ghost use Rattle.icl_signals.specs.Connecting.{number_among, instrument_number, 
 use crate::ConnectFault;
 use crate::following::trace;
 use crate::numbers::{number_at, number_of};
-use crate::wires::{End, StandsFor, Wire};
+use crate::wires::{Driver, End, Wire};
 use crate::wiring::Wiring;
 use icl_elab::Ref;
 use ij_text::Place;
@@ -31,7 +31,7 @@ pub(crate) fn constant(b: bool) -> Sig
 /// The register bit that a bit is.
 pub(crate) fn register_bit(wiring: &Wiring, wire: Wire) -> BitId
     requires wiring { IsWiring wiring.now }
-    requires stands { stands_for (cells_of wiring.now) wiring.now.entry wire ≡ ARegisterBit }
+    requires stands { driver_of (cells_of wiring.now) wiring.now.entry wire ≡ ARegisterBit }
     ensures { result ≡ register_bit (cells_of wiring.now) wire }
 {
     BitId {
@@ -43,7 +43,7 @@ pub(crate) fn register_bit(wiring: &Wiring, wire: Wire) -> BitId
 /// The multiplexer whose output a bit is.
 fn mux_number(wiring: &Wiring, wire: Wire) -> u32
     requires wiring { IsWiring wiring.now }
-    requires stands { stands_for (cells_of wiring.now) wiring.now.entry wire ≡ AMuxOutput }
+    requires stands { driver_of (cells_of wiring.now) wiring.now.entry wire ≡ AMuxOutput }
     ensures { result ≡ number_among is_mux (cells_of wiring.now) wire.cell wire.part }
 {
     number_at(wiring.muxes.as_slice(), wire.cell, wire.part)
@@ -52,7 +52,7 @@ fn mux_number(wiring: &Wiring, wire: Wire) -> u32
 /// The number of the instrument whose output a bit is.
 fn instrument_number(wiring: &Wiring, wire: Wire) -> u32
     requires wiring { IsWiring wiring.now }
-    requires stands { stands_for (cells_of wiring.now) wiring.now.entry wire ≡ AnInstrumentOutput }
+    requires stands { driver_of (cells_of wiring.now) wiring.now.entry wire ≡ AnInstrumentOutput }
     ensures { result ≡ instrument_number (cells_of wiring.now) wire.cell }
 {
     number_of(wiring.instrument_numbers.as_slice(), wire.cell)
@@ -61,7 +61,7 @@ fn instrument_number(wiring: &Wiring, wire: Wire) -> u32
 /// The number, among the outputs of its instrument, of the one that a bit is of.
 fn output_number(wiring: &Wiring, wire: Wire) -> u32
     requires wiring { IsWiring wiring.now }
-    requires stands { stands_for (cells_of wiring.now) wiring.now.entry wire ≡ AnInstrumentOutput }
+    requires stands { driver_of (cells_of wiring.now) wiring.now.entry wire ≡ AnInstrumentOutput }
     ensures { result ≡ output_number (cells_of wiring.now) wire.cell wire.part }
 {
     number_at(wiring.outputs.as_slice(), wire.cell, wire.part)
@@ -70,7 +70,7 @@ fn output_number(wiring: &Wiring, wire: Wire) -> u32
 /// The instrument's output that a bit is.
 fn output_bit(wiring: &Wiring, wire: Wire, inverted: bool) -> Sig
     requires wiring { IsWiring wiring.now }
-    requires stands { stands_for (cells_of wiring.now) wiring.now.entry wire ≡ AnInstrumentOutput }
+    requires stands { driver_of (cells_of wiring.now) wiring.now.entry wire ≡ AnInstrumentOutput }
     ensures { result ≡ Out (instrument_number (cells_of wiring.now) wire.cell)
         (output_number (cells_of wiring.now) wire.cell wire.part) wire.pos inverted }
 {
@@ -85,7 +85,7 @@ fn output_bit(wiring: &Wiring, wire: Wire, inverted: bool) -> Sig
 /// The data signal that an end is.
 fn data_end(wiring: &Wiring, at: Place, end: End) -> Result<Sig, ConnectFault>
     requires wiring { IsWiring wiring.now }
-    requires told { IsTold (cells_of wiring.now) wiring.now.entry end }
+    requires told { IsTrueEnd (cells_of wiring.now) wiring.now.entry end }
     ensures { Gives same result (data_end (cells_of wiring.now) at end) }
 {
     match end {
@@ -95,12 +95,12 @@ fn data_end(wiring: &Wiring, at: Place, end: End) -> Result<Sig, ConnectFault>
             inverted,
             stands,
         } => match stands {
-            StandsFor::ARegisterBit => Ok(Sig::Bit {
+            Driver::ARegisterBit => Ok(Sig::Bit {
                 bit: register_bit(wiring, wire),
                 inverted,
             }),
-            StandsFor::AnInstrumentOutput => Ok(output_bit(wiring, wire, inverted)),
-            StandsFor::AFreeInput => Ok(constant(inverted)),
+            Driver::AnInstrumentOutput => Ok(output_bit(wiring, wire, inverted)),
+            Driver::AFreeInput => Ok(constant(inverted)),
             _ => Err(ConnectFault::Undriven { at }),
         },
         End::InLoop => Err(ConnectFault::SignalLoop { at }),
@@ -110,15 +110,15 @@ fn data_end(wiring: &Wiring, at: Place, end: End) -> Result<Sig, ConnectFault>
 /// Where the scan path comes from whose trace ends so.
 fn scan_end(wiring: &Wiring, at: Place, end: End) -> Result<Point, ConnectFault>
     requires wiring { IsWiring wiring.now }
-    requires told { IsTold (cells_of wiring.now) wiring.now.entry end }
+    requires told { IsTrueEnd (cells_of wiring.now) wiring.now.entry end }
     ensures { Gives same result (scan_end (cells_of wiring.now) at end) }
 {
     match end {
         End::AtConstant(_) => Err(ConnectFault::Undriven { at }),
         End::AtBit { wire, stands, .. } => match stands {
-            StandsFor::ARegisterBit => Ok(Point::Reg(register_bit(wiring, wire).reg)),
-            StandsFor::AMuxOutput => Ok(Point::Mux(mux_number(wiring, wire))),
-            StandsFor::TheEntry => Ok(Point::Entry),
+            Driver::ARegisterBit => Ok(Point::Reg(register_bit(wiring, wire).reg)),
+            Driver::AMuxOutput => Ok(Point::Mux(mux_number(wiring, wire))),
+            Driver::TheEntry => Ok(Point::Entry),
             _ => Err(ConnectFault::Undriven { at }),
         },
         End::InLoop => Err(ConnectFault::SignalLoop { at }),
@@ -179,12 +179,12 @@ pub(crate) fn signal_from(wiring: &Wiring, at: Place, r: Ref) -> Sig
             inverted,
             stands,
         } => match stands {
-            StandsFor::ARegisterBit => Sig::Bit {
+            Driver::ARegisterBit => Sig::Bit {
                 bit: register_bit(wiring, wire),
                 inverted,
             },
-            StandsFor::AnInstrumentOutput => output_bit(wiring, wire, inverted),
-            StandsFor::AFreeInput => constant(inverted),
+            Driver::AnInstrumentOutput => output_bit(wiring, wire, inverted),
+            Driver::AFreeInput => constant(inverted),
             _ => Sig::Absent,
         },
         End::InLoop => Sig::Absent,

@@ -4,7 +4,7 @@ ghost use Rattle.icl_references.specs.Roles.{seen_part, seen_cell, seen_hier};
 ghost use Rattle.icl_signals.specs.Moves.{entries_in};
 ghost use Rattle.icl_signals.specs.Connecting.{entries_that, own_bits, parts_that};
 ghost use Rattle.icl_signals.specs.Kinds.{test_of};
-ghost use Rattle.icl_signals.specs.Told.{seen_entry};
+ghost use Rattle.icl_signals.specs.TrueEnds.{seen_entry};
 ghost use Rattle.icl_signals.specs.Inside.{numbered};
 
 use crate::parts::{Kind, is_of, width_of};

@@ -5,7 +5,7 @@ ghost use Rattle.icl_signals.specs.Wirings.{IsWiring, cells_of};
 ghost use Rattle.icl_signals.specs.Found.{IsFound, AreFound, turned_end};
 
 use crate::entries::next;
-use crate::following::{Next, one_move};
+use crate::following::{NextBit, one_move};
 use crate::found::{Found, Note, known, same_wire, turned_end, with_note};
 use crate::parts::{is_wired, width_of};
 use crate::wires::{End, Wire};
@@ -42,13 +42,13 @@ fn find(wiring: &Wiring, ends: &[Option<Note>], start: Wire) -> Option<Found>
             return after(moves, inverted, found);
         }
         match one_move(wiring, inverted, wire) {
-            Next::Ended(end) => {
+            NextBit::Ended(end) => {
                 return Some(Found {
                     looks: moves + 1,
                     end,
                 });
             }
-            Next::At {
+            NextBit::At {
                 wire: other,
                 inverted: turned,
             } => {
@@ -91,8 +91,8 @@ fn with_way(
             return ends;
         }
         match one_move(wiring, false, wire) {
-            Next::Ended(_) => return ends,
-            Next::At {
+            NextBit::Ended(_) => return ends,
+            NextBit::At {
                 wire: other,
                 inverted,
             } => {

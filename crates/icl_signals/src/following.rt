@@ -3,50 +3,50 @@ ghost use Rattle.std.specs.Prelude.{◌≡◌, Bool, false};
 ghost use Rattle.ij_bits.specs.BitLists.{flip_if};
 ghost use Rattle.icl_references.specs.Roles.{seen_body, seen_refs};
 ghost use Rattle.icl_signals.specs.Wirings.{IsWiring, cells_of};
-ghost use Rattle.icl_signals.specs.Told.{IsTold, IsToldNext, IsConstant, resume};
-ghost use Rattle.icl_signals.specs.Moves.{stands_for, role_move, one_ref, ref_in, is_instrument_cell};
+ghost use Rattle.icl_signals.specs.TrueEnds.{IsTrueEnd, IsTrueNext, IsConstant, resume};
+ghost use Rattle.icl_signals.specs.Moves.{driver_of, role_move, one_ref, ref_in, is_instrument_cell};
 ghost use Rattle.icl_signals.specs.Moves.{is_entry};
 ghost use Rattle.icl_signals.specs.Traces.{follow, trace, from_ref, from_move};
 ghost use Rattle.std.specs.Option.{option_map};
 
 use crate::found::{known, turned_end};
 use crate::parts::{is_top, part_at};
-use crate::wires::{End, StandsFor, Wire};
+use crate::wires::{Driver, End, Wire};
 use crate::wiring::Wiring;
 use icl_elab::{Body, Ref};
 use ij_bits::List;
 
-fn one_ref(signal: Option<Ref>) -> StandsFor
+fn one_ref(signal: Option<Ref>) -> Driver
     ensures { result ≡ one_ref signal }
 {
     match signal {
-        Some(r) => StandsFor::Another(r),
-        None => StandsFor::NothingAtAll,
+        Some(r) => Driver::Another(r),
+        None => Driver::NothingAtAll,
     }
 }
 
 /// The bit at a position, if there are any.
-fn ref_in(refs: &Option<List<Ref>>, pos: u32) -> StandsFor
+fn ref_in(refs: &Option<List<Ref>>, pos: u32) -> Driver
     ensures { result ≡ ref_in (option_map seen_refs refs.now) pos }
 {
     match refs {
         Some(refs) => one_ref(refs.as_slice().get(pos as usize).copied()),
-        None => StandsFor::NothingAtAll,
+        None => Driver::NothingAtAll,
     }
 }
 
 /// What a bit of a part stands for, where the part's cell may be the top or an instrument.
-fn role_move(top: bool, instrument: bool, body: &Body, pos: u32) -> StandsFor
+fn role_move(top: bool, instrument: bool, body: &Body, pos: u32) -> Driver
     ensures { result ≡ role_move top instrument (seen_body body.now) pos }
 {
     match body {
-        Body::Register { .. } => StandsFor::ARegisterBit,
-        Body::Mux { .. } => StandsFor::AMuxOutput,
+        Body::Register { .. } => Driver::ARegisterBit,
+        Body::Mux { .. } => Driver::AMuxOutput,
         Body::ScanIn { bound } => one_ref(*bound),
         Body::ScanOut { source } => one_ref(*source),
         Body::DataIn { bound } => {
             if top {
-                StandsFor::AFreeInput
+                Driver::AFreeInput
             } else {
                 ref_in(bound, pos)
             }
@@ -55,13 +55,13 @@ fn role_move(top: bool, instrument: bool, body: &Body, pos: u32) -> StandsFor
             Some(_) => ref_in(source, pos),
             None => {
                 if instrument {
-                    StandsFor::AnInstrumentOutput
+                    Driver::AnInstrumentOutput
                 } else {
-                    StandsFor::NothingAtAll
+                    Driver::NothingAtAll
                 }
             }
         },
-        _ => StandsFor::NothingAtAll,
+        _ => Driver::NothingAtAll,
     }
 }
 
@@ -82,19 +82,19 @@ fn is_entry(entry: Wire, wire: Wire) -> bool
 }
 
 /// What a bit stands for. Takes no memory.
-#[tactic(auto, unfolding(crate::specs::Moves::stands_for))]
-pub(crate) fn next_move(wiring: &Wiring, wire: Wire) -> StandsFor
+#[tactic(auto, unfolding(crate::specs::Moves::driver_of))]
+pub(crate) fn next_move(wiring: &Wiring, wire: Wire) -> Driver
     requires { IsWiring wiring.now }
-    ensures { result ≡ stands_for (cells_of wiring.now) wiring.now.entry wire }
+    ensures { result ≡ driver_of (cells_of wiring.now) wiring.now.entry wire }
 {
     if is_entry(wiring.entry, wire) {
-        return StandsFor::TheEntry;
+        return Driver::TheEntry;
     }
     let top = is_top(wiring.hier, wire.cell);
     let instrument = is_instrument_cell(wiring, wire.cell);
     match part_at(wiring.hier, wire.cell, wire.part) {
         Some(part) => role_move(top, instrument, &part.body, wire.pos),
-        None => StandsFor::NothingAtAll,
+        None => Driver::NothingAtAll,
     }
 }
 
@@ -106,7 +106,7 @@ pub(crate) fn flipped(turned: bool, inverted: bool) -> bool
 
 /// The next bit of a trace, or its end.
 #[derive(Clone, Copy, Drop)]
-pub enum Next {
+pub enum NextBit {
     /// The trace ends so.
     Ended(End),
     /// It goes on at this bit.
@@ -119,18 +119,18 @@ pub enum Next {
 }
 
 /// What a reference, inverted or not, leads to.
-fn next_of(inverted: bool, r: Ref) -> Next
+fn next_of(inverted: bool, r: Ref) -> NextBit
     ensures value { (go : Bool → Wire → End) → from_ref go inverted r ≡ resume go result }
     ensures told { IsConstant result }
 {
     match r {
-        Ref::Fixed(b) => Next::Ended(End::AtConstant(flipped(inverted, b))),
+        Ref::Fixed(b) => NextBit::Ended(End::AtConstant(flipped(inverted, b))),
         Ref::Bit {
             cell,
             part,
             pos,
             inverted: turned,
-        } => Next::At {
+        } => NextBit::At {
             wire: Wire { cell, part, pos },
             inverted: flipped(turned, inverted),
         },
@@ -138,15 +138,15 @@ fn next_of(inverted: bool, r: Ref) -> Next
 }
 
 /// One move of a trace.
-pub(crate) fn one_move(wiring: &Wiring, inverted: bool, wire: Wire) -> Next
+pub(crate) fn one_move(wiring: &Wiring, inverted: bool, wire: Wire) -> NextBit
     requires { IsWiring wiring.now }
     ensures value { (go : Bool → Wire → End) → from_move go inverted wire
-        (stands_for (cells_of wiring.now) wiring.now.entry wire) ≡ resume go result }
-    ensures told { IsToldNext (cells_of wiring.now) wiring.now.entry result }
+        (driver_of (cells_of wiring.now) wiring.now.entry wire) ≡ resume go result }
+    ensures told { IsTrueNext (cells_of wiring.now) wiring.now.entry result }
 {
     match next_move(wiring, wire) {
-        StandsFor::Another(r) => next_of(inverted, r),
-        stands => Next::Ended(End::AtBit {
+        Driver::Another(r) => next_of(inverted, r),
+        stands => NextBit::Ended(End::AtBit {
             wire,
             inverted,
             stands,
@@ -158,14 +158,14 @@ pub(crate) fn one_move(wiring: &Wiring, inverted: bool, wire: Wire) -> Next
 fn follow(wiring: &Wiring, inverted: bool, wire: Wire) -> End
     requires { IsWiring wiring.now }
     ensures value { result ≡ follow (cells_of wiring.now) wiring.now.entry wiring.now.looks inverted wire }
-    ensures told { IsTold (cells_of wiring.now) wiring.now.entry result }
+    ensures told { IsTrueEnd (cells_of wiring.now) wiring.now.entry result }
 {
     let mut inverted = inverted;
     let mut wire = wire;
     for _look in 0..wiring.looks {
         match one_move(wiring, inverted, wire) {
-            Next::Ended(end) => return end,
-            Next::At {
+            NextBit::Ended(end) => return end,
+            NextBit::At {
                 wire: other,
                 inverted: turned,
             } => {
@@ -181,7 +181,7 @@ fn follow(wiring: &Wiring, inverted: bool, wire: Wire) -> End
 fn end_of(wiring: &Wiring, inverted: bool, wire: Wire) -> End
     requires { IsWiring wiring.now }
     ensures value { result ≡ follow (cells_of wiring.now) wiring.now.entry wiring.now.looks inverted wire }
-    ensures told { IsTold (cells_of wiring.now) wiring.now.entry result }
+    ensures told { IsTrueEnd (cells_of wiring.now) wiring.now.entry result }
 {
     match known(wiring, wiring.ends.as_slice(), wire) {
         Some(found) => {
@@ -200,7 +200,7 @@ fn end_of(wiring: &Wiring, inverted: bool, wire: Wire) -> End
 pub(crate) fn trace(wiring: &Wiring, r: Ref) -> End
     requires { IsWiring wiring.now }
     ensures value { result ≡ trace (cells_of wiring.now) wiring.now.entry r }
-    ensures told { IsTold (cells_of wiring.now) wiring.now.entry result }
+    ensures told { IsTrueEnd (cells_of wiring.now) wiring.now.entry result }
 {
     match r {
         Ref::Fixed(b) => End::AtConstant(b),

@@ -5,7 +5,7 @@ ghost use Rattle.icl_elab.specs.WellFormed.{is_data_out, is_instrument};
 ghost use Rattle.icl_references.specs.Roles.{seen_cell};
 ghost use Rattle.icl_signals.specs.Refusals.{Gives, after};
 ghost use Rattle.icl_signals.specs.Wirings.{IsWiring, cells_of};
-ghost use Rattle.icl_signals.specs.Told.{seen_entry};
+ghost use Rattle.icl_signals.specs.TrueEnds.{seen_entry};
 ghost use Rattle.icl_signals.specs.Inside.{numbered};
 ghost use Rattle.icl_signals.specs.PlainNets.{seen_input, seen_output, seen_inst};
 ghost use Rattle.icl_signals.specs.Connecting.{input_from, input_of, output_of, instrument_of, instruments};

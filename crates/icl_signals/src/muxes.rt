@@ -4,7 +4,7 @@ ghost use Rattle.icl_declarations.specs.Faults.{each};
 ghost use Rattle.icl_references.specs.Roles.{seen_row as seen_choice};
 ghost use Rattle.icl_signals.specs.Refusals.{Gives};
 ghost use Rattle.icl_signals.specs.Wirings.{IsWiring, cells_of};
-ghost use Rattle.icl_signals.specs.Told.{seen_entry};
+ghost use Rattle.icl_signals.specs.TrueEnds.{seen_entry};
 ghost use Rattle.icl_signals.specs.PlainNets.{seen_row, seen_mux};
 ghost use Rattle.icl_signals.specs.Connecting.{select_from, row_from, mux_of};
 

@@ -8,7 +8,7 @@ ghost use Rattle.icl_elab.specs.WellFormed.{is_thing};
 ghost use Rattle.icl_references.specs.Roles.{seen_part, seen_refs};
 ghost use Rattle.icl_signals.specs.Refusals.{Gives};
 ghost use Rattle.icl_signals.specs.Wirings.{IsWiring, cells_of};
-ghost use Rattle.icl_signals.specs.Told.{IsPlaced, ArePlaced, seen_entry};
+ghost use Rattle.icl_signals.specs.TrueEnds.{IsPlaced, ArePlaced, seen_entry};
 ghost use Rattle.icl_signals.specs.PlainNets.{seen_reg};
 ghost use Rattle.icl_signals.specs.Connecting.{data_from, scan_source, captures, register_of, number_among};
 

@@ -3,7 +3,7 @@ ghost use Rattle.std.specs.Prelude.{◌≡◌, map, true, Some, None, IfOk};
 ghost use Rattle.icl_elab.specs.WellFormed.{is_register};
 ghost use Rattle.icl_references.specs.Roles.{seen_part, part_at};
 ghost use Rattle.icl_signals.specs.Wirings.{IsWiring, cells_of};
-ghost use Rattle.icl_signals.specs.Told.{seen_entry};
+ghost use Rattle.icl_signals.specs.TrueEnds.{seen_entry};
 ghost use Rattle.icl_signals.specs.PlainNets.{seen_thing};
 ghost use Rattle.icl_signals.specs.Connecting.{own_bits, spot_of, thing_of, number_among};
 
@@ -16,7 +16,7 @@ use crate::wiring::Wiring;
 use icl_elab::{Body, Part, Ref};
 use ij_bits::{List, OutOfMemory, beside};
 use ij_text::name_of;
-use net_graph::{BitId, Spot, Thing};
+use net_graph::{BitId, Spot, Spots, Thing};
 use std::alloc::Global;
 
 /// The number of a register.
@@ -56,12 +56,11 @@ fn spot_of(wiring: &Wiring, r: Ref) -> Spot
 }
 
 /// The bits that references name.
-fn named_spots(alloc: Global, wiring: &Wiring, refs: &[Ref]) -> Result<List<Spot>, OutOfMemory>
+fn named_spots(alloc: Global, wiring: &Wiring, refs: &[Ref]) -> Result<Spots, OutOfMemory>
     requires { IsWiring wiring.now }
     ensures { IfOk result (λ all. all.items ≡ map (spot_of (cells_of wiring.now) wiring.now.entry) refs.now) }
 {
-    let mut all = List::new(alloc);
-    all.reserve(refs.len())?;
+    let mut all = Spots::new(alloc);
     for r in refs {
         all.push(spot_of(wiring, *r))?;
     }
@@ -69,7 +68,7 @@ fn named_spots(alloc: Global, wiring: &Wiring, refs: &[Ref]) -> Result<List<Spot
 }
 
 /// The bits of a part, position 0 first.
-fn own_spots(alloc: Global, wiring: &Wiring, e: PartAt) -> Result<List<Spot>, OutOfMemory>
+fn own_spots(alloc: Global, wiring: &Wiring, e: PartAt) -> Result<Spots, OutOfMemory>
     requires { IsWiring wiring.now }
     ensures { IfOk result (λ all. all.items
         ≡ map (spot_of (cells_of wiring.now) wiring.now.entry) (own_bits (seen_entry e.entry))) }

@@ -16,7 +16,7 @@ pub struct Wire {
 /// What a signal bit stands for (IEEE 1687-2014, ICL: the connections of ports): another bit, or nothing
 /// further, since it is where a trace ends.
 #[derive(Clone, Copy, Drop)]
-pub enum StandsFor {
+pub enum Driver {
     /// Another signal bit, or a constant.
     Another(Ref),
     /// Itself: it is a bit of a scan register.
@@ -45,7 +45,7 @@ pub enum End {
         /// Whether the inverse of the bit is meant.
         inverted: bool,
         /// What the bit stands for.
-        stands: StandsFor,
+        stands: Driver,
     },
     /// Nowhere: it comes back to a bit that it left.
     InLoop,

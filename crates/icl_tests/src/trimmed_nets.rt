@@ -2,7 +2,7 @@
 use ij_bits::{Bits, List, OutOfMemory, Tern};
 use ij_text::{Name, name_of};
 use net_graph::{
-    BitId, Device, Inst, Mux, Net, Node, Point, PortIn, PortOut, Reg, Row, Sig, Spot, Thing,
+    BitId, Device, Inst, Mux, Net, Node, Point, PortIn, PortOut, Reg, Row, Sig, Spot, Spots, Thing,
 };
 use std::alloc::Global;
 use std::mem::replace;
@@ -93,6 +93,8 @@ fn nodes(alloc: Global) -> List<Node> {
 /// The named things: one with a word.
 fn things(alloc: Global, value: Tern) -> List<Thing> {
     let word = named(alloc, b"on");
+    let mut bits = Spots::new(alloc);
+    let _ = bits.push(Spot::Held(BitId { reg: 0, pos: 1 }));
     alone(
         alloc,
         Thing {
@@ -100,7 +102,7 @@ fn things(alloc: Global, value: Tern) -> List<Thing> {
             name: named(alloc, b"reg"),
             left: 2,
             right: 3,
-            bits: alone(alloc, Spot::Held(BitId { reg: 0, pos: 1 })),
+            bits,
             words: alone(alloc, (word, value)),
         },
     )

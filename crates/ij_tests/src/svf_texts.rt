@@ -4,10 +4,10 @@ use crate::checks::{check_text, show, show_bytes};
 use ij_io::{SureSink, Word};
 use std::alloc::Global;
 use svf_reader::read_svf;
-use svf_writer::{Command, Commands, Part, Scan};
+use svf_writer::{Command, Commands, Scan, ScanPart};
 
 /// A part of a scan, by its lowest hexadecimal digit.
-fn show_part(text: &mut SureSink, name: &[u8], part: &Part) {
+fn show_part(text: &mut SureSink, name: &[u8], part: &ScanPart) {
     if !part.is_given() {
         return;
     }

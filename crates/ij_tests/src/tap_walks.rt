@@ -5,7 +5,7 @@ ghost use Rattle.tap_machine.specs.Play.{scans_in};
 use ij_bits::{Bits, OutOfMemory};
 use std::alloc::Global;
 use std::test::Fail;
-use svf_writer::{Command, Commands, Part, Scan};
+use svf_writer::{Command, Commands, Scan, ScanPart};
 use tap_machine::{Piece, Pins, Player, Stable, Tap, TapState};
 
 /// The levels of TMS from Test-Logic-Reset on, and the state to which each leads: through a data and an
@@ -50,13 +50,13 @@ fn a_controller_walks_to_reset_and_through_a_data_scan(rt: HostRuntime) {
 }
 
 /// Two bits, position 0 first.
-fn two(alloc: Global, a: bool, b: bool) -> Result<Part, OutOfMemory>
+fn two(alloc: Global, a: bool, b: bool) -> Result<ScanPart, OutOfMemory>
     ensures { IfOk result (λ part. IsSomeAnd part (λ bits. length bits ≡ 2)) }
 {
     let mut bits = Bits::zeros(alloc, 2)?;
     bits.set(0, a);
     bits.set(1, b);
-    Part::of_bits(alloc, bits)
+    ScanPart::of_bits(alloc, bits)
 }
 
 /// The clock that shifts a bit.
@@ -80,24 +80,24 @@ fn commands_to_play(alloc: Global) -> Result<Commands, OutOfMemory>
     let mut commands = Commands::new(alloc);
     commands.push(Command::Sdr(Scan {
         len: 2,
-        tdi: Part::of_number(2, 0b01),
+        tdi: ScanPart::of_number(2, 0b01),
         tdo,
         mask,
-        smask: Part::absent(),
+        smask: ScanPart::absent(),
     }))?;
     commands.push(Command::Sdr(Scan {
         len: 2,
-        tdi: Part::absent(),
-        tdo: Part::of_number(2, 0b01),
-        mask: Part::absent(),
-        smask: Part::absent(),
+        tdi: ScanPart::absent(),
+        tdo: ScanPart::of_number(2, 0b01),
+        mask: ScanPart::absent(),
+        smask: ScanPart::absent(),
     }))?;
     commands.push(Command::Sdr(Scan {
         len: 1,
-        tdi: Part::of_number(1, 1),
-        tdo: Part::of_number(1, 1),
-        mask: Part::absent(),
-        smask: Part::absent(),
+        tdi: ScanPart::of_number(1, 1),
+        tdo: ScanPart::of_number(1, 1),
+        mask: ScanPart::absent(),
+        smask: ScanPart::absent(),
     }))?;
     commands.push(Command::Run(3))?;
     commands.push(Command::Reset)?;
@@ -163,13 +163,13 @@ fn tdi_and_mask_hold_up_to_a_new_length(rt: HostRuntime) -> Result<(), Fail> {
 }
 
 /// Seventy bits, the lowest 64 in the first number.
-fn seventy(alloc: Global, low: u64, high: u64) -> Result<Part, OutOfMemory>
+fn seventy(alloc: Global, low: u64, high: u64) -> Result<ScanPart, OutOfMemory>
     ensures { IfOk result (λ part. IsSomeAnd part (λ bits. length bits ≡ 70)) }
 {
     let mut bits = Bits::with_room(alloc, 70)?;
     bits.append_number_reserved(low, 64);
     bits.append_number_reserved(high, 6);
-    Part::of_bits(alloc, bits)
+    ScanPart::of_bits(alloc, bits)
 }
 
 /// Scans of seventy bits with TDO and MASK, and without them; and an instruction scan of 5 bits without MASK.
@@ -185,21 +185,21 @@ fn long_commands(alloc: Global) -> Result<Commands, OutOfMemory>
         tdi,
         tdo,
         mask,
-        smask: Part::absent(),
+        smask: ScanPart::absent(),
     }))?;
     commands.push(Command::Sdr(Scan {
         len: 70,
-        tdi: Part::absent(),
-        tdo: Part::absent(),
-        mask: Part::absent(),
-        smask: Part::absent(),
+        tdi: ScanPart::absent(),
+        tdo: ScanPart::absent(),
+        mask: ScanPart::absent(),
+        smask: ScanPart::absent(),
     }))?;
     commands.push(Command::Sir(Scan {
         len: 5,
-        tdi: Part::of_number(5, 0b10110),
-        tdo: Part::of_number(5, 0b01101),
-        mask: Part::absent(),
-        smask: Part::absent(),
+        tdi: ScanPart::of_number(5, 0b10110),
+        tdo: ScanPart::of_number(5, 0b01101),
+        mask: ScanPart::absent(),
+        smask: ScanPart::absent(),
     }))?;
     Ok(commands)
 }

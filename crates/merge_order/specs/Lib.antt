@@ -1,7 +1,7 @@
 pub mod Merge
 pub mod Insertion
 pub mod Tables
-pub mod Around
+pub mod RowsAround
 pub mod Named
 pub mod Feeding
 pub mod AllSteps

@@ -4,7 +4,7 @@ ghost use Rattle.std.specs.List.{list_any};
 ghost use Rattle.net_graph.specs.declared.branch.Branch.{Branch as ABranch};
 ghost use Rattle.net_graph.specs.SeenSteps.{seen_group};
 ghost use Rattle.pdl_targets.specs.SeenPlaces.{places_in};
-ghost use Rattle.merge_order.specs.Around.{HasLast};
+ghost use Rattle.merge_order.specs.RowsAround.{HasLast};
 ghost use Rattle.merge_order.specs.Tables.{SameRows, rows_around};
 
 use ij_bits::{List, OutOfMemory};
@@ -24,12 +24,12 @@ fn add_rows(rows: &mut List<Branch>, more: &[Branch]) -> Result<(), OutOfMemory>
 
 /// Rows around registers, and the last register, if there is one.
 #[derive(Drop)]
-pub(crate) struct Around {
+pub(crate) struct RowsAround {
     pub rows: List<Branch>,
     pub last: Option<u32>,
 }
 
-impl Around {
+impl RowsAround {
     /// Whether a register is the last one.
     fn is_last(&self, register: u32) -> bool
         ensures { result ≡ true → self.now.last ≡ Some register }
@@ -94,7 +94,7 @@ pub(crate) fn rows_around(
     ensures { IfOk result
         (λ rows. SameRows rows.items (rows_around (places_in tree.now) (seen_group group.now))) }
 {
-    let mut around = Around {
+    let mut around = RowsAround {
         rows: List::new(alloc),
         last: None,
     };

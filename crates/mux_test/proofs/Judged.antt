@@ -20,7 +20,7 @@ use Rattle.net_graph.specs.declared.step.WriteBit.{WriteBit}
 use Rattle.net_graph.specs.Path.{route_of}
 use Rattle.net_graph.specs.Signals.{Holds}
 use Rattle.net_graph.specs.Stuck.{stuck_route}
-use Rattle.mux_test.specs.declared.judge.JudgedRow.{JudgedRow}
+use Rattle.mux_test.specs.declared.judge.RowVerdict.{RowVerdict}
 use Rattle.mux_test.specs.declared.judge.Verdict.{Verdict}
 use Rattle.mux_test.specs.declared.judge.Verdict.TheVariants.{Open, Seen, Unseen}
 use Rattle.mux_test.specs.Judged.{judge, judged_at, judged_row, judged_rows, verdict_of, open_row, is_untold}
@@ -31,21 +31,22 @@ use Rattle.mux_test.specs.Planned.{AreFlushable, holds_after, seen_planned}
 
 module _ (net : Net) where
   -- one row after all scans
-  judged : List Holds → JudgedRow → JudgedRow
+  judged : List Holds → RowVerdict → RowVerdict
   judged [] r = r
   judged (h ∷ hs) r = judged hs (judged_row net h r)
 
-  each : (hs : List Holds) (r : JudgedRow) (rs : List JudgedRow)
+  each : (hs : List Holds) (r : RowVerdict) (rs : List RowVerdict)
       → judged_rows net hs (r ∷ rs) ≡ judged hs r ∷ judged_rows net hs rs
   unfolding judged
   each [] r rs = refl
-  each (h ∷ hs) r rs = each hs (judged_row net h r) (map (judged_row net h) rs)
+  each (h ∷ hs) r rs = each hs (judged_row net h r)
+      (map (judged_row net h) rs)
 
   none : (hs : List Holds) → judged_rows net hs [] ≡ []
   none [] = refl
   none (h ∷ hs) = none hs
 
-  same_branch : (hs : List Holds) (r : JudgedRow) → (judged hs r).branch ≡ r.branch
+  same_branch : (hs : List Holds) (r : RowVerdict) → (judged hs r).branch ≡ r.branch
   unfolding judged
   same_branch [] r = refl
   same_branch (h ∷ hs) r = same_branch hs (judged_row net h r)
@@ -139,7 +140,7 @@ module _ (net : Net) (h : Holds) where
       on false true e = refl
       on false false e = refl
 
-  judged_again : (rows : List JudgedRow)
+  judged_again : (rows : List RowVerdict)
       → map (judged_row net h) (map (judged_row net h) rows) ≡ map (judged_row net h) rows
   judged_again [] = refl
   judged_again (r ∷ rs) =
@@ -148,7 +149,7 @@ module _ (net : Net) (h : Holds) where
       ∙ ap (λ xs. judged_row net h r ∷ xs) (judged_again rs)
 
   -- after a scan that changes nothing, rows are judged already
-  pub next_alike : (next : Holds) (ws : List WriteBit) (rows now : List JudgedRow) → next ≡ write_all h ws
+  pub next_alike : (next : Holds) (ws : List WriteBit) (rows now : List RowVerdict) → next ≡ write_all h ws
       → ws ≡ [] → now ≡ map (judged_row net h) rows → map (judged_row net next) now ≡ now
   next_alike next ws rows now n e a =
       let same : next ≡ h = n ∙ ap (write_all h) e in
@@ -172,7 +173,7 @@ path_short net p h w a r = omega (arith, chain_fits net p h a r, w.bits_within_l
 -- ---- one row judged in its place
 
 module _ (net : Net) (h : Holds) where
-  one_more : (rows : List JudgedRow) (i : ℕ)
+  one_more : (rows : List RowVerdict) (i : ℕ)
       → judged_at net h i (map (judged_row net h) (take i rows) ++ drop i rows)
       ≡ map (judged_row net h) (take (suc i) rows) ++ drop (suc i) rows
   one_more [] zero = refl
@@ -181,7 +182,7 @@ module _ (net : Net) (h : Holds) where
   one_more (r ∷ rs) (suc i) = ap (λ xs. judged_row net h r ∷ xs) (one_more rs i)
 
   -- one more of them is judged
-  pub next_row_judged : (rows before now : List JudgedRow) (i : ℕ)
+  pub next_row_judged : (rows before now : List RowVerdict) (i : ℕ)
       → before ≡ map (judged_row net h) (take i rows) ++ drop i rows → now ≡ judged_at net h i before
       → now ≡ map (judged_row net h) (take (i + 1) rows) ++ drop (i + 1) rows
   next_row_judged rows before now i e a =
@@ -189,7 +190,7 @@ module _ (net : Net) (h : Holds) where
       a ∙ ap (judged_at net h i) e ∙ one_more rows i
       ∙ ap (λ k. map (judged_row net h) (take k rows) ++ drop k rows) one
 
-  put : (rows : List JudgedRow) (i : ℕ) (r : JudgedRow) → r ≡ get_or rows i r
+  put : (rows : List RowVerdict) (i : ℕ) (r : RowVerdict) → r ≡ get_or rows i r
       → slice_set rows i (judged_row net h r) ≡ judged_at net h i rows
   put [] zero r e = refl
   put [] (suc i) r e = refl
@@ -197,12 +198,12 @@ module _ (net : Net) (h : Holds) where
   put (x ∷ xs) (suc i) r e = ap (λ ys. x ∷ ys) (put xs i r e)
 
   -- where it is put in its place
-  pub row_put : (rows now : List JudgedRow) (i : ℕ) (r judged : JudgedRow) → r ≡ get_or rows i r
+  pub row_put : (rows now : List RowVerdict) (i : ℕ) (r judged : RowVerdict) → r ≡ get_or rows i r
       → judged ≡ judged_row net h r → now ≡ slice_set rows i judged → now ≡ judged_at net h i rows
   row_put rows now i r judged e j a = a ∙ ap (slice_set rows i) j ∙ put rows i r e
 
   -- where it stays as it is
-  pub row_stays : (rows : List JudgedRow) (i : ℕ) (r : JudgedRow) → r ≡ get_or rows i r
+  pub row_stays : (rows : List RowVerdict) (i : ℕ) (r : RowVerdict) → r ≡ get_or rows i r
       → judged_row net h r ≡ r → rows ≡ judged_at net h i rows
   row_stays [] zero r e s = refl
   row_stays [] (suc i) r e s = refl
@@ -210,44 +211,45 @@ module _ (net : Net) (h : Holds) where
   row_stays (x ∷ xs) (suc i) r e s = ap (λ ys. x ∷ ys) (row_stays xs i r e s)
 
 -- the rows stay those of the network's muxes
-pub row_there : (net : Net) (h : Holds) (rows now : List JudgedRow) (i : ℕ) → now ≡ judged_at net h i rows
+pub row_there : (net : Net) (h : Holds) (rows now : List RowVerdict) (i : ℕ) → now ≡ judged_at net h i rows
     → All (λ r. IsBranchOf net r.branch) rows → All (λ r. IsBranchOf net r.branch) now
 row_there net h rows now i e a = subst (All (λ r. IsBranchOf net r.branch)) (sym e) (each_there rows i a)
   where
-    each_there : (rows : List JudgedRow) (i : ℕ) → All (λ r. IsBranchOf net r.branch) rows
+    each_there : (rows : List RowVerdict) (i : ℕ) → All (λ r. IsBranchOf net r.branch) rows
         → All (λ r. IsBranchOf net r.branch) (judged_at net h i rows)
     each_there [] zero a = a
     each_there [] (suc i) a = a
     each_there (r ∷ rs) zero a =
-        All-cons (λ (r : JudgedRow). IsBranchOf net r.branch) (judged_row net h r) rs
-        (All-head (λ (r : JudgedRow). IsBranchOf net r.branch) r rs a)
-        (All-tail (λ (r : JudgedRow). IsBranchOf net r.branch) r rs a)
+        All-cons (λ (r : RowVerdict). IsBranchOf net r.branch) (judged_row net h r) rs
+        (All-head (λ (r : RowVerdict). IsBranchOf net r.branch) r rs a)
+        (All-tail (λ (r : RowVerdict). IsBranchOf net r.branch) r rs a)
     each_there (r ∷ rs) (suc i) a =
-        All-cons (λ (r : JudgedRow). IsBranchOf net r.branch) r (judged_at net h i rs)
-        (All-head (λ (r : JudgedRow). IsBranchOf net r.branch) r rs a)
-        (each_there rs i (All-tail (λ (r : JudgedRow). IsBranchOf net r.branch) r rs a))
+        All-cons (λ (r : RowVerdict). IsBranchOf net r.branch) r (judged_at net h i rs)
+        (All-head (λ (r : RowVerdict). IsBranchOf net r.branch) r rs a)
+        (each_there rs i (All-tail (λ (r : RowVerdict). IsBranchOf net r.branch) r rs a))
 
-pub all_judged : (net : Net) (h : Holds) (rows now : List JudgedRow) → now ≡ map (judged_row net h) rows
+pub all_judged : (net : Net) (h : Holds) (rows now : List RowVerdict) → now ≡ map (judged_row net h) rows
     → All (λ r. IsBranchOf net r.branch) rows → All (λ r. IsBranchOf net r.branch) now
 all_judged net h rows now e a = subst (All (λ r. IsBranchOf net r.branch)) (sym e) (each_judged rows a)
   where
-    each_judged : (rows : List JudgedRow) → All (λ r. IsBranchOf net r.branch) rows
+    each_judged : (rows : List RowVerdict) → All (λ r. IsBranchOf net r.branch) rows
         → All (λ r. IsBranchOf net r.branch) (map (judged_row net h) rows)
-    each_judged [] a = All-nil (λ (r : JudgedRow). IsBranchOf net r.branch)
+    each_judged [] a = All-nil (λ (r : RowVerdict). IsBranchOf net r.branch)
     each_judged (r ∷ rs) a =
-        All-cons (λ (r : JudgedRow). IsBranchOf net r.branch) (judged_row net h r) (map (judged_row net h) rs)
-        (All-head (λ (r : JudgedRow). IsBranchOf net r.branch) r rs a)
-        (each_judged rs (All-tail (λ (r : JudgedRow). IsBranchOf net r.branch) r rs a))
+        All-cons (λ (r : RowVerdict). IsBranchOf net r.branch) (judged_row net h r)
+        (map (judged_row net h) rs)
+        (All-head (λ (r : RowVerdict). IsBranchOf net r.branch) r rs a)
+        (each_judged rs (All-tail (λ (r : RowVerdict). IsBranchOf net r.branch) r rs a))
 
-pub all_open : (net : Net) (bs : List Branch) (rows : List JudgedRow) → rows ≡ map open_row bs
+pub all_open : (net : Net) (bs : List Branch) (rows : List RowVerdict) → rows ≡ map open_row bs
     → All (IsBranchOf net) bs → All (λ r. IsBranchOf net r.branch) rows
 all_open net bs rows e a = subst (All (λ r. IsBranchOf net r.branch)) (sym e) (each_open bs a)
   where
     each_open : (bs : List Branch) → All (IsBranchOf net) bs
         → All (λ r. IsBranchOf net r.branch) (map open_row bs)
-    each_open [] a = All-nil (λ (r : JudgedRow). IsBranchOf net r.branch)
+    each_open [] a = All-nil (λ (r : RowVerdict). IsBranchOf net r.branch)
     each_open (b ∷ bs) a =
-        All-cons (λ (r : JudgedRow). IsBranchOf net r.branch) (open_row b) (map open_row bs)
+        All-cons (λ (r : RowVerdict). IsBranchOf net r.branch) (open_row b) (map open_row bs)
         (All-head (IsBranchOf net) b bs a) (each_open bs (All-tail (IsBranchOf net) b bs a))
 
 -- the bits that a scan writes are held before it
@@ -274,7 +276,7 @@ module _ (net : Net) (scans : List PlannedScan) (i : ℕ) (x : PlannedScan) (l :
       let b = subst (AreFlushable net h) left_is a in
       subst (λ k. AreFlushable net k (map seen_planned (drop (i + 1) scans))) (sym n) b.2
 
-  pub next_judged : (rows now all : List JudgedRow) → now ≡ map (judged_row net h) rows
+  pub next_judged : (rows now all : List RowVerdict) → now ≡ map (judged_row net h) rows
       → judged_rows net (begins h (holds_after h (map seen_planned (drop i scans)))) rows ≡ all
       → judged_rows net (begins next (holds_after next (map seen_planned (drop (i + 1) scans)))) now ≡ all
   next_judged rows now all e j =

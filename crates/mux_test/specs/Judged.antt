@@ -8,7 +8,7 @@ use Rattle.net_graph.specs.Path.{route_of}
 use Rattle.net_graph.specs.Signals.{Holds}
 use Rattle.net_graph.specs.Stuck.{stuck_route}
 use Rattle.mux_test.specs.Seen.{is_seen}
-use Rattle.mux_test.specs.declared.judge.JudgedRow.{JudgedRow}
+use Rattle.mux_test.specs.declared.judge.RowVerdict.{RowVerdict}
 use Rattle.mux_test.specs.declared.judge.Verdict.{Verdict}
 use Rattle.mux_test.specs.declared.judge.Verdict.TheVariants.{Open, Seen, Unseen}
 
@@ -26,29 +26,29 @@ judge net h b Open = verdict_of h (route_of net h) (stuck_route net b h)
 judge net h b Seen = Seen
 judge net h b Unseen = Unseen
 
-abbrev pub judged_row : Net → Holds → JudgedRow → JudgedRow
+abbrev pub judged_row : Net → Holds → RowVerdict → RowVerdict
 judged_row net h r = record { branch = r.branch; verdict = judge net h r.branch r.verdict }
 
 -- rows of which the one at an index is judged
-abbrev pub judged_at : Net → Holds → ℕ → List JudgedRow → List JudgedRow
+abbrev pub judged_at : Net → Holds → ℕ → List RowVerdict → List RowVerdict
 judged_at net h i [] = []
 judged_at net h zero (r ∷ rows) = judged_row net h r ∷ rows
 judged_at net h (suc i) (r ∷ rows) = r ∷ judged_at net h i rows
 
 -- rows after scans that begin with these update stages
-abbrev pub judged_rows : Net → List Holds → List JudgedRow → List JudgedRow
+abbrev pub judged_rows : Net → List Holds → List RowVerdict → List RowVerdict
 judged_rows net [] rows = rows
 judged_rows net (h ∷ hs) rows = judged_rows net hs (map (judged_row net h) rows)
 
 -- a row that no scan was judged for
-abbrev pub open_row : Branch → JudgedRow
+abbrev pub open_row : Branch → RowVerdict
 open_row b = record { branch = b; verdict = Open }
 
 -- a row that no scan has told
-abbrev pub is_untold : JudgedRow → Bool
+abbrev pub is_untold : RowVerdict → Bool
 is_untold r = elim r.verdict [ Open ↦ true | Seen ↦ false | Unseen ↦ true ]
 
-abbrev pub untold_rows : List JudgedRow → List Branch
+abbrev pub untold_rows : List RowVerdict → List Branch
 untold_rows rows = map (λ r. r.branch) (filter is_untold rows)
 
 -- of these rows those that a mux may be stuck in unseen, by scans that begin with these update stages

@@ -44,7 +44,7 @@ pub(crate) enum Verdict {
 
 /// A row that a mux may be stuck in.
 #[derive(Clone, Copy, Drop)]
-pub(crate) struct JudgedRow {
+pub(crate) struct RowVerdict {
     /// The row.
     pub branch: Branch,
     /// What is known of it.
@@ -98,7 +98,7 @@ fn verdict_of(holds: &Holds, own: &[u32], other: &[u32]) -> Verdict
 }
 
 /// Whether no scan has told a row yet. Takes no memory.
-fn is_open(row: JudgedRow) -> bool
+fn is_open(row: RowVerdict) -> bool
     ensures { IsFalse result → (net : ANet) (holds : SeenHolds) → judged.judged_row net holds row ≡ row }
 {
     matches!(row.verdict, Verdict::Open)
@@ -209,7 +209,7 @@ impl Judge {
     }
 
     /// Judges a row. Takes no memory.
-    fn judge(&mut self, net: &Net, tree: &Tree, holds: &Holds, row: JudgedRow) -> JudgedRow
+    fn judge(&mut self, net: &Net, tree: &Tree, holds: &Holds, row: RowVerdict) -> RowVerdict
         requires testable { IsTestable net.now tree.now }
         requires scannable { IsScannable net.now holds.now }
         requires row { IsBranchOf net.now row.branch }
@@ -218,7 +218,7 @@ impl Judge {
         ensures ready { IsReady net.now holds.now self.new }
     {
         match row.verdict {
-            Verdict::Open => JudgedRow {
+            Verdict::Open => RowVerdict {
                 branch: row.branch,
                 verdict: self.verdict(net, tree, holds, row.branch),
             },
@@ -232,7 +232,7 @@ impl Judge {
         net: &Net,
         tree: &Tree,
         holds: &Holds,
-        rows: &mut List<JudgedRow>,
+        rows: &mut List<RowVerdict>,
         i: usize,
     )
         requires testable { IsTestable net.now tree.now }
@@ -251,7 +251,7 @@ impl Judge {
     }
 
     /// Judges all rows at the beginning of a scan. Takes no memory.
-    fn judge_rows(&mut self, net: &Net, tree: &Tree, holds: &Holds, rows: &mut List<JudgedRow>)
+    fn judge_rows(&mut self, net: &Net, tree: &Tree, holds: &Holds, rows: &mut List<RowVerdict>)
         requires testable { IsTestable net.now tree.now }
         requires scannable { IsScannable net.now holds.now }
         requires rows { All (λ r. IsBranchOf net.now r.branch) rows.old.items }
@@ -273,7 +273,7 @@ impl Judge {
         tree: &Tree,
         holds: &Holds,
         changed: bool,
-        rows: &mut List<JudgedRow>,
+        rows: &mut List<RowVerdict>,
     )
         requires testable { IsTestable net.now tree.now }
         requires scannable { IsScannable net.now holds.now }
@@ -297,7 +297,7 @@ fn judge_scans(
     net: &Net,
     tree: &Tree,
     scans: &[PlannedScan],
-    rows: &mut List<JudgedRow>,
+    rows: &mut List<RowVerdict>,
 ) -> Result<(), OutOfMemory>
     requires testable { IsTestable net.now tree.now }
     requires scans { AreFlushable net.now (start_holds net.now) (map seen_planned scans.now) }
@@ -317,13 +317,13 @@ fn judge_scans(
 }
 
 /// Rows that no scan was judged for.
-fn open_rows(alloc: Global, branches: &[Branch]) -> Result<List<JudgedRow>, OutOfMemory>
+fn open_rows(alloc: Global, branches: &[Branch]) -> Result<List<RowVerdict>, OutOfMemory>
     ensures { IfOk result (λ rows. rows.items ≡ map judged.open_row branches.now) }
 {
     let mut rows = List::new(alloc);
     rows.reserve(branches.len())?;
     for branch in branches {
-        rows.push_reserved(JudgedRow {
+        rows.push_reserved(RowVerdict {
             branch: *branch,
             verdict: Verdict::Open,
         });
@@ -332,7 +332,7 @@ fn open_rows(alloc: Global, branches: &[Branch]) -> Result<List<JudgedRow>, OutO
 }
 
 /// The rows that no scan has told, in their order.
-fn untold_rows(alloc: Global, rows: &[JudgedRow]) -> Result<List<Branch>, OutOfMemory>
+fn untold_rows(alloc: Global, rows: &[RowVerdict]) -> Result<List<Branch>, OutOfMemory>
     ensures { IfOk result (λ untold. untold.items ≡ judged.untold_rows rows.now) }
 {
     let mut untold = List::new(alloc);

@@ -27,7 +27,7 @@ use path_planner::advance;
 use scan_packer::{HeldPath, pack_flush_on};
 use std::alloc::Global;
 use std::marker::Model;
-use svf_writer::{Command, Part, Scan};
+use svf_writer::{Command, Scan, ScanPart};
 
 /// One scan of a mux test.
 #[derive(Drop)]
@@ -110,10 +110,10 @@ fn flush_of(
     pack_flush_on(net, holds, path, plan, &mut tdi, &mut tdo, &mut mask);
     Ok(Command::Sdr(Scan {
         len: tdi.len(),
-        tdi: Part::of_bits(alloc, tdi)?,
-        tdo: Part::of_bits(alloc, tdo)?,
-        mask: Part::of_bits(alloc, mask)?,
-        smask: Part::absent(),
+        tdi: ScanPart::of_bits(alloc, tdi)?,
+        tdo: ScanPart::of_bits(alloc, tdo)?,
+        mask: ScanPart::of_bits(alloc, mask)?,
+        smask: ScanPart::absent(),
     }))
 }
 

@@ -15,52 +15,52 @@ use Rattle.nest_check.specs.Scan.{scan}
 use Rattle.nest_check.specs.Tables.{Table, around_at, is_new, noted, level, entered, next_row, outside}
 use Rattle.nest_check.specs.Tables.{note_register, note_mux, step, pass, nothing_named, table, climbed}
 use Rattle.nest_check.specs.Tables.{climbed_on, levels_from, number_of, levels_in}
-use Rattle.nest_check.specs.declared.place.Level.{Level}
-use Rattle.nest_check.specs.declared.tables.Around.{Around}
+use Rattle.nest_check.specs.declared.place.BegunMux.{BegunMux}
+use Rattle.nest_check.specs.declared.tables.MetMux.{MetMux}
 
 -- ---- levels that were met
 
-kept : (met : List Around) (a b : Around) (here : ℕ) → around_at met here ≡ Some b
+kept : (met : List MetMux) (a b : MetMux) (here : ℕ) → around_at met here ≡ Some b
     → around_at (met ++ a ∷ []) here ≡ Some b
 kept met a b zero h = absurd cc
 kept [] a b (suc k) h = absurd cc
 kept (x ∷ met) a b (suc zero) h = h
 kept (x ∷ met) a b (suc (suc k)) h = kept met a b (suc k) h
 
-last_one : (met : List Around) (a : Around) → slice_get (met ++ a ∷ []) (length met) ≡ Some a
+last_one : (met : List MetMux) (a : MetMux) → slice_get (met ++ a ∷ []) (length met) ≡ Some a
 last_one [] a = refl
 last_one (x ∷ met) a = last_one met a
 
-newest : (met : List Around) (a : Around) → around_at (met ++ a ∷ []) (length met + 1) ≡ Some a
+newest : (met : List MetMux) (a : MetMux) → around_at (met ++ a ∷ []) (length met + 1) ≡ Some a
 newest met a = ap (around_at (met ++ a ∷ [])) (add-one (length met)) ∙ last_one met a
 
-within : (met : List Around) (here : ℕ) (a : Around) → around_at met here ≡ Some a → here ≤ length met
+within : (met : List MetMux) (here : ℕ) (a : MetMux) → around_at met here ≡ Some a → here ≤ length met
 within met zero a h = absurd cc
 within met (suc k) a h = let below = slice_get_within met k a h in omega (arith, below)
 
 -- the levels from a number outwards
-abbrev IsChain : List Around → ℕ → List Level → Type 0
+abbrev IsChain : List MetMux → ℕ → List BegunMux → Type 0
 IsChain met here [] = here ≡ 0
-IsChain met here (l ∷ ls) = (a : Around) × (around_at met here ≡ Some a) × (a.level ≡ l)
+IsChain met here (l ∷ ls) = (a : MetMux) × (around_at met here ≡ Some a) × (a.level ≡ l)
     × (a.outer < here) × IsChain met a.outer ls
 
-chain_kept : (met : List Around) (a : Around) (here : ℕ) (ls : List Level)
+chain_kept : (met : List MetMux) (a : MetMux) (here : ℕ) (ls : List BegunMux)
     → IsChain met here ls → IsChain (met ++ a ∷ []) here ls
 chain_kept met a here [] h = h
 chain_kept met a here (l ∷ ls) h = (h.0, kept met a h.0 here h.1, h.2, h.3, chain_kept met a h.0.outer ls h.4)
 
-chain_within : (met : List Around) (here : ℕ) (ls : List Level) → IsChain met here ls → here ≤ length met
+chain_within : (met : List MetMux) (here : ℕ) (ls : List BegunMux) → IsChain met here ls → here ≤ length met
 chain_within met here [] h = omega (arith, h)
 chain_within met here (l ∷ ls) h = within met here h.0 h.1
 
-chain_entered : (met : List Around) (l : Level) (outer : ℕ) (ls : List Level) → IsChain met outer ls
+chain_entered : (met : List MetMux) (l : BegunMux) (outer : ℕ) (ls : List BegunMux) → IsChain met outer ls
     → IsChain (met ++ record { level = l; outer = outer } ∷ []) (length met + 1) (l ∷ ls)
 chain_entered met l outer ls h =
-    let a : Around = record { level = l; outer = outer } in
+    let a : MetMux = record { level = l; outer = outer } in
     let most = chain_within met outer ls h in
     (a, newest met a, refl, omega (arith, most), chain_kept met a outer ls h)
 
-climb : (n : ℕ) (met : List Around) (here : ℕ) (ls : List Level) → here ≤ n
+climb : (n : ℕ) (met : List MetMux) (here : ℕ) (ls : List BegunMux) → here ≤ n
     → IsChain met here ls → climbed n met here ≡ ls
 climb zero met here [] le h = refl
 climb zero met here (l ∷ ls) le h = let below = h.3 in absurd (omega (arith, le, below))
@@ -108,12 +108,12 @@ noted_other numbers i j here n = by_test (is_new (slice_get numbers i))
 
 -- ---- what is known of an item: what is left to find, or where it is
 
-abbrev IsKnown : List Around → Option (Option ℕ) → List Level → List Level → Type 0
+abbrev IsKnown : List MetMux → Option (Option ℕ) → List BegunMux → List BegunMux → Type 0
 IsKnown met None now whole = now ≡ whole
 IsKnown met (Some None) now whole = now ≡ whole
-IsKnown met (Some (Some here)) now whole = (ls : List Level) × IsChain met here ls × (whole ≡ reverse ls)
+IsKnown met (Some (Some here)) now whole = (ls : List BegunMux) × IsChain met here ls × (whole ≡ reverse ls)
 
-known_kept : (met : List Around) (a : Around) (number : Option (Option ℕ)) (now whole : List Level)
+known_kept : (met : List MetMux) (a : MetMux) (number : Option (Option ℕ)) (now whole : List BegunMux)
     → IsKnown met number now whole → IsKnown (met ++ a ∷ []) number now whole
 known_kept met a None now whole h = h
 known_kept met a (Some None) now whole h = h
@@ -126,20 +126,20 @@ IsIn t (Reg r) = (number : Option ℕ) × (slice_get t.regs r ≡ Some number)
 IsIn t (Mux m) = (number : Option ℕ) × (slice_get t.muxes m ≡ Some number)
 
 -- an item is named where it is noted: by what was known of its number
-named_here : (met : List Around) (numbers : List (Option ℕ)) (i here : ℕ) (ls whole : List Level)
+named_here : (met : List MetMux) (numbers : List (Option ℕ)) (i here : ℕ) (ls whole : List BegunMux)
     (number : Option ℕ) → slice_get numbers i ≡ Some number → IsChain met here ls
     → IsKnown met (Some number) (reverse ls) whole
-    → (later : List Level) → IsKnown met (slice_get (noted numbers i here) i) later whole
+    → (later : List BegunMux) → IsKnown met (slice_get (noted numbers i here) i) later whole
 named_here met numbers i here ls whole None is chain h later =
     subst (λ o. IsKnown met o later whole) (sym (noted_new numbers i here is)) (ls, chain, sym h)
 named_here met numbers i here ls whole (Some k) is chain h later =
     subst (λ o. IsKnown met o later whole) (sym (noted_old numbers i here k is)) h
 
 -- a mark that names an item of its kind, this one or another one
-note_known : (met : List Around) (numbers : List (Option ℕ)) (i j here : ℕ) (ls later whole : List Level)
+note_known : (met : List MetMux) (numbers : List (Option ℕ)) (i j here : ℕ) (ls later whole : List BegunMux)
     → ((number : Option ℕ) × (slice_get numbers j ≡ Some number)) → IsChain met here ls
     → (b : Bool) → (i == j) ≡ b → IsKnown met (slice_get numbers j)
-    (elim b as (λ _. List Level) [ true ↦ reverse ls | false ↦ later ]) whole
+    (elim b as (λ _. List BegunMux) [ true ↦ reverse ls | false ↦ later ]) whole
     → IsKnown met (slice_get (noted numbers i here) j) later whole
 note_known met numbers i j here ls later whole there chain true same h =
     let e : i ≡ j = eqb-true i j same in
@@ -173,13 +173,13 @@ note_stays numbers i j here there = by_test (i == j) refl
 
 -- ---- one mark
 
-pub record Stands (t : Table) (item : Point) (rest : List Mark) (whole : List Level) : Type 0 where
-  pub levels : List Level
+pub record Stands (t : Table) (item : Point) (rest : List Mark) (whole : List BegunMux) : Type 0 where
+  pub levels : List BegunMux
   pub there : IsIn t item
   pub chain : IsChain t.met t.here levels
   pub known : IsKnown t.met (number_of t item) (scan rest levels item) whole
 
-reg_stands : (t : Table) (r : ℕ) (item : Point) (rest : List Mark) (whole : List Level)
+reg_stands : (t : Table) (r : ℕ) (item : Point) (rest : List Mark) (whole : List BegunMux)
     → Stands t item (RegMark r ∷ rest) whole → Stands (note_register t r) item rest whole
 reg_stands t r Entry rest whole s = record { levels = s.levels; there = tt; chain = s.chain; known = s.known }
 reg_stands t r (Mux m) rest whole s =
@@ -193,15 +193,15 @@ reg_stands t r (Reg q) rest whole s =
           (scan rest s.levels (Reg q)) whole s.there s.chain (r == q) refl s.known;
     }
 
-mux_stands : (t : Table) (m : ℕ) (item : Point) (rest : List Mark) (whole : List Level)
+mux_stands : (t : Table) (m : ℕ) (item : Point) (rest : List Mark) (whole : List BegunMux)
     → Stands t item (MuxMark m ∷ rest) whole
     → Stands (entered (note_mux t m) (level m 0) t.here) item rest whole
 mux_stands t m item rest whole s = by_item item s.there s.known
   where
-    a : Around
+    a : MetMux
     a = record { level = level m 0; outer = t.here }
 
-    inner : List Level
+    inner : List BegunMux
     inner = level m 0 ∷ s.levels
 
     chain : IsChain (t.met ++ a ∷ []) (length t.met + 1) inner
@@ -228,17 +228,18 @@ mux_stands t m item rest whole s = by_item item s.there s.known
         }
 
 -- the item's number stays
-in_entered : (t : Table) (l : Level) (outer : ℕ) (item : Point) → IsIn t item → IsIn (entered t l outer) item
+in_entered : (t : Table) (l : BegunMux) (outer : ℕ) (item : Point) → IsIn t item
+    → IsIn (entered t l outer) item
 in_entered t l outer Entry h = tt
 in_entered t l outer (Reg r) h = h
 in_entered t l outer (Mux m) h = h
 
-in_outside : (t : Table) (a : Around) (item : Point) → IsIn t item → IsIn (outside t (Some a)) item
+in_outside : (t : Table) (a : MetMux) (item : Point) → IsIn t item → IsIn (outside t (Some a)) item
 in_outside t a Entry h = tt
 in_outside t a (Reg r) h = h
 in_outside t a (Mux m) h = h
 
-known_entered : (t : Table) (l : Level) (outer : ℕ) (item : Point) (now whole : List Level)
+known_entered : (t : Table) (l : BegunMux) (outer : ℕ) (item : Point) (now whole : List BegunMux)
     → IsKnown t.met (number_of t item) now whole
     → IsKnown (entered t l outer).met (number_of (entered t l outer) item) now whole
 known_entered t l outer Entry now whole h = h
@@ -247,25 +248,25 @@ known_entered t l outer (Reg r) now whole h =
 known_entered t l outer (Mux m) now whole h =
     known_kept t.met (record { level = l; outer = outer }) (slice_get t.muxes m) now whole h
 
-known_outside : (t : Table) (a : Around) (item : Point) (now whole : List Level)
+known_outside : (t : Table) (a : MetMux) (item : Point) (now whole : List BegunMux)
     → IsKnown t.met (number_of t item) now whole
     → IsKnown (outside t (Some a)).met (number_of (outside t (Some a)) item) now whole
 known_outside t a Entry now whole h = h
 known_outside t a (Reg r) now whole h = h
 known_outside t a (Mux m) now whole h = h
 
-row_stands : (t : Table) (item : Point) (rest : List Mark) (whole : List Level)
+row_stands : (t : Table) (item : Point) (rest : List Mark) (whole : List BegunMux)
     → Stands t item (RowMark ∷ rest) whole → Stands (next_row t (around_at t.met t.here)) item rest whole
 row_stands t item rest whole s = by_levels s.levels s.chain s.known
   where
-    by_levels : (ls : List Level) → IsChain t.met t.here ls
+    by_levels : (ls : List BegunMux) → IsChain t.met t.here ls
         → IsKnown t.met (number_of t item) (scan (RowMark ∷ rest) ls item) whole
         → Stands (next_row t (around_at t.met t.here)) item rest whole
     by_levels [] chain known =
         subst (λ k. Stands (next_row t (around_at t.met k)) item rest whole) (sym chain)
         (record { levels = []; there = s.there; chain = chain; known = known })
     by_levels (l ∷ ls) chain known =
-        let next : Level = level chain.0.level.mux (chain.0.level.begun + 1) in
+        let next : BegunMux = level chain.0.level.mux (chain.0.level.begun + 1) in
         let now : IsKnown t.met (number_of t item) (scan rest (next ∷ ls) item) whole = subst
         (λ x. IsKnown t.met (number_of t item) (scan rest (level x.mux (x.begun + 1) ∷ ls) item) whole)
         (sym chain.2) known in
@@ -277,11 +278,11 @@ row_stands t item rest whole s = by_levels s.levels s.chain s.known
           known = known_entered t next chain.0.outer item (scan rest (next ∷ ls) item) whole now;
         })
 
-end_stands : (t : Table) (item : Point) (rest : List Mark) (whole : List Level)
+end_stands : (t : Table) (item : Point) (rest : List Mark) (whole : List BegunMux)
     → Stands t item (EndMark ∷ rest) whole → Stands (outside t (around_at t.met t.here)) item rest whole
 end_stands t item rest whole s = by_levels s.levels s.chain s.known
   where
-    by_levels : (ls : List Level) → IsChain t.met t.here ls
+    by_levels : (ls : List BegunMux) → IsChain t.met t.here ls
         → IsKnown t.met (number_of t item) (scan (EndMark ∷ rest) ls item) whole
         → Stands (outside t (around_at t.met t.here)) item rest whole
     by_levels [] chain known =
@@ -296,7 +297,7 @@ end_stands t item rest whole s = by_levels s.levels s.chain s.known
           known = known_outside t chain.0 item (scan rest ls item) whole known;
         })
 
-step_stands : (t : Table) (mark : Mark) (item : Point) (rest : List Mark) (whole : List Level)
+step_stands : (t : Table) (mark : Mark) (item : Point) (rest : List Mark) (whole : List BegunMux)
     → Stands t item (mark ∷ rest) whole → Stands (step t mark) item rest whole
 unfolding step
 step_stands t (RegMark r) item rest whole s = reg_stands t r item rest whole s
@@ -306,7 +307,7 @@ step_stands t EndMark item rest whole s = end_stands t item rest whole s
 
 -- ---- all marks
 
-pass_finds : (marks : List Mark) (t : Table) (item : Point) (whole : List Level)
+pass_finds : (marks : List Mark) (t : Table) (item : Point) (whole : List BegunMux)
     → Stands t item marks whole → levels_in (pass t marks) item ≡ whole
 unfolding levels_in
 pass_finds (m ∷ marks) t item whole s =

@@ -7,14 +7,14 @@ use Rattle.net_graph.specs.declared.net.Point.TheVariants.{Entry, Reg, Mux}
 use Rattle.net_tree.specs.declared.mark.Mark.{Mark}
 use Rattle.net_tree.specs.declared.mark.Mark.TheVariants.{Reg as RegMark, Mux as MuxMark, Row as RowMark}
 use Rattle.net_tree.specs.declared.mark.Mark.TheVariants.{End as EndMark}
-use Rattle.nest_check.specs.declared.place.Level.{Level}
-use Rattle.nest_check.specs.declared.tables.Around.{Around}
+use Rattle.nest_check.specs.declared.place.BegunMux.{BegunMux}
+use Rattle.nest_check.specs.declared.tables.MetMux.{MetMux}
 use Rattle.nest_check.specs.declared.tables.Tables.{Tables}
 
 -- the levels that were met have the numbers from 1 on. `here` is the innermost one around the marks at hand,
 -- 0 for none; a register or mux that was named has the number of the one around it
 pub record Table : Type 0 where
-  pub met : List Around
+  pub met : List MetMux
   pub here : ℕ
   pub regs : List (Option ℕ)
   pub muxes : List (Option ℕ)
@@ -22,7 +22,7 @@ pub record Table : Type 0 where
 abbrev pub table_of : Tables → Table
 table_of t = record { met = t.met.items; here = t.here; regs = t.regs.items; muxes = t.muxes.items }
 
-abbrev pub around_at : List Around → ℕ → Option Around
+abbrev pub around_at : List MetMux → ℕ → Option MetMux
 around_at met zero = None
 around_at met (suc k) = slice_get met k
 
@@ -37,10 +37,10 @@ is_new (Some (Some k)) = false
 abbrev pub noted : List (Option ℕ) → ℕ → ℕ → List (Option ℕ)
 noted numbers item here = cond (is_new (slice_get numbers item)) (slice_set numbers item (Some here)) numbers
 
-abbrev pub level : ℕ → ℕ → Level
+abbrev pub level : ℕ → ℕ → BegunMux
 level mux begun = record { mux = mux; begun = begun }
 
-abbrev pub entered : Table → Level → ℕ → Table
+abbrev pub entered : Table → BegunMux → ℕ → Table
 entered t l outer = record {
   met = t.met ++ record { level = l; outer = outer } ∷ [];
   here = length t.met + 1;
@@ -49,11 +49,11 @@ entered t l outer = record {
 }
 
 -- the next row of the level at hand
-abbrev pub next_row : Table → Option Around → Table
+abbrev pub next_row : Table → Option MetMux → Table
 next_row t None = t
 next_row t (Some a) = entered t (level a.level.mux (a.level.begun + 1)) a.outer
 
-abbrev pub outside : Table → Option Around → Table
+abbrev pub outside : Table → Option MetMux → Table
 outside t None = t
 outside t (Some a) = record { met = t.met; here = a.outer; regs = t.regs; muxes = t.muxes }
 
@@ -83,15 +83,15 @@ table net marks = pass (nothing_named (length net.regs.items) (length net.muxes.
 -- ---- the levels of an item
 
 -- from a level outwards, this many at most
-abbrev pub climbed_on : (ℕ → List Level) → Option Around → List Level
+abbrev pub climbed_on : (ℕ → List BegunMux) → Option MetMux → List BegunMux
 climbed_on further None = []
 climbed_on further (Some a) = a.level ∷ further a.outer
 
-abbrev pub climbed : ℕ → List Around → ℕ → List Level
+abbrev pub climbed : ℕ → List MetMux → ℕ → List BegunMux
 climbed zero met here = []
 climbed (suc n) met here = climbed_on (climbed n met) (around_at met here)
 
-abbrev pub levels_from : List Around → Option (Option ℕ) → List Level
+abbrev pub levels_from : List MetMux → Option (Option ℕ) → List BegunMux
 levels_from met None = []
 levels_from met (Some None) = []
 levels_from met (Some (Some here)) = reverse (climbed here met here)
@@ -102,5 +102,5 @@ number_of t (Reg r) = slice_get t.regs r
 number_of t (Mux m) = slice_get t.muxes m
 
 -- outermost first
-unfoldable pub levels_in : Table → Point → List Level
+unfoldable pub levels_in : Table → Point → List BegunMux
 levels_in t item = levels_from t.met (number_of t item)

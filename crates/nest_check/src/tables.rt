@@ -2,7 +2,7 @@
 ghost use Rattle.std.specs.Prelude.{◌≡◌, ◌+◌, ◌-◌, ◌<◌, ◌≤◌, ◌^◌, length, reverse, All, Some, IfOk, OnOk};
 ghost use Rattle.nest_check.specs.Tables as tables;
 
-use crate::place::Level;
+use crate::place::BegunMux;
 use ij_bits::OutOfMemory;
 use net_graph::{Net, Point};
 use net_tree::Mark;
@@ -10,9 +10,9 @@ use std::alloc::Global;
 
 /// A level, and what is around it.
 #[derive(Clone, Copy, Drop)]
-pub(crate) struct Around {
+pub(crate) struct MetMux {
     /// The mux, and how many of its rows have begun.
-    pub level: Level,
+    pub level: BegunMux,
     /// The number of the level around it, 0 for none.
     pub outer: usize,
 }
@@ -21,7 +21,7 @@ pub(crate) struct Around {
 #[derive(Drop)]
 pub(crate) struct Tables {
     /// The levels that were met; their numbers count from 1.
-    pub met: Vec<Around>,
+    pub met: Vec<MetMux>,
     /// The number of the level around the marks at hand, 0 for none.
     pub here: usize,
     /// For each register that was named the number of the level around it.
@@ -41,7 +41,7 @@ fn note(numbers: &mut Vec<Option<usize>>, item: usize, here: usize)
 
 impl Tables {
     /// The level around the marks at hand.
-    fn around(&self, here: usize) -> Option<Around>
+    fn around(&self, here: usize) -> Option<MetMux>
         ensures { result ≡ tables.around_at self.now.met.items here }
     {
         if here == 0 || here > self.met.len() {
@@ -52,11 +52,11 @@ impl Tables {
     }
 
     /// Enters a level.
-    fn enter(&mut self, level: Level, outer: usize) -> Result<(), OutOfMemory>
+    fn enter(&mut self, level: BegunMux, outer: usize) -> Result<(), OutOfMemory>
         ensures { OnOk result (tables.table_of self.new
             ≡ tables.entered (tables.table_of self.old) level outer) }
     {
-        self.met.push(Around { level, outer })?;
+        self.met.push(MetMux { level, outer })?;
         self.here = self.met.len();
         Ok(())
     }
@@ -70,7 +70,7 @@ impl Tables {
             (tables.around_at self.old.met.items self.old.here)) }
     {
         if let Some(around) = self.around(self.here) {
-            let level = Level {
+            let level = BegunMux {
                 mux: around.level.mux,
                 begun: around.level.begun + 1,
             };
@@ -91,7 +91,7 @@ impl Tables {
             Mark::Reg(reg) => note(&mut self.regs, reg as usize, self.here),
             Mark::Mux(mux) => {
                 note(&mut self.muxes, mux as usize, self.here);
-                self.enter(Level { mux, begun: 0 }, self.here)?;
+                self.enter(BegunMux { mux, begun: 0 }, self.here)?;
             }
             Mark::Row => self.next_row(most)?,
             Mark::End => {
@@ -104,7 +104,7 @@ impl Tables {
     }
 
     /// From a level outwards.
-    fn climbed(&self, alloc: Global, from: usize) -> Result<Vec<Level>, OutOfMemory>
+    fn climbed(&self, alloc: Global, from: usize) -> Result<Vec<BegunMux>, OutOfMemory>
         ensures { IfOk result (λ levels. levels.items ≡ tables.climbed from self.now.met.items from) }
     {
         let mut levels = Vec::new(alloc);
@@ -141,7 +141,7 @@ impl Tables {
 
     /// The levels around an item, outermost first.
     #[tactic(auto, unfolding(crate::specs::Tables::levels_in))]
-    pub fn levels(&self, alloc: Global, item: Point) -> Result<Vec<Level>, OutOfMemory>
+    pub fn levels(&self, alloc: Global, item: Point) -> Result<Vec<BegunMux>, OutOfMemory>
         ensures { IfOk result (λ levels. levels.items ≡ tables.levels_in (tables.table_of self.now) item) }
     {
         match self.number(item) {

@@ -8,6 +8,7 @@ pub mod Devices
 pub mod OneRegister
 pub mod SeenSteps
 pub mod Groups
+pub mod Spotted
 pub mod Steps
 pub mod Held
 pub mod Tracing

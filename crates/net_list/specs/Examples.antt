@@ -21,7 +21,7 @@ port node name left right number =
       name = full name;
       left = left;
       right = right;
-      bits = full (four number);
+      bits = record { items = four number };
       words = full [];
     }
 

@@ -49,9 +49,7 @@ fn port_width(net: &Net, inst: u32, port: u32) -> u32
 fn is_port(thing: &Thing, node: u32, name: &[u8], width: u32) -> bool
     ensures { result ≡ outputs.is_port thing.now node name.now width }
 {
-    thing.node == node
-        && thing.name.as_slice() == name
-        && thing.bits.len() as u64 == u64::from(width)
+    thing.node == node && thing.name.as_slice() == name && thing.bits.len() == width
 }
 
 /// The index of a position of a thing.

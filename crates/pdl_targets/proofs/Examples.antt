@@ -60,7 +60,14 @@ cell name = record { path = full (full name ∷ []); «module» = full (codes "N
 -- a thing of the cell `net`
 abbrev thing : List ℕ → ℕ → List Spot → Thing
 thing name width spots =
-    record { node = 1; name = full name; left = width - 1; right = 0; bits = full spots; words = full [] }
+    record {
+      node = 1;
+      name = full name;
+      left = width - 1;
+      right = 0;
+      bits = record { items = spots };
+      words = full [];
+    }
 
 abbrev net_of : List Reg → List Mux → List Thing → Net
 net_of regs muxes things = record {
@@ -109,7 +116,7 @@ alias = record {
   name = full (codes "a");
   left = 3;
   right = 0;
-  bits = full (held 1 2 ++ held 0 2);
+  bits = record { items = held 1 2 ++ held 0 2 };
   words = full ((full (codes "on"), exact (true ∷ false ∷ false ∷ true ∷ []))
       ∷ (full (codes "off"), exact (false ∷ false ∷ false ∷ false ∷ [])) ∷ []);
 }
@@ -141,7 +148,7 @@ mixed = record {
           name = full (codes "d");
           left = 0;
           right = 0;
-          bits = full (Inward (Bit (record { reg = 0; pos = 0 }) true) ∷ []);
+          bits = record { items = Inward (Bit (record { reg = 0; pos = 0 }) true) ∷ [] };
           words = full [];
         }
         ∷ record {
@@ -149,7 +156,7 @@ mixed = record {
           name = full (codes "q");
           left = 0;
           right = 0;
-          bits = full (Outward output ∷ []);
+          bits = record { items = Outward output ∷ [] };
           words = full [];
         } ∷ []);
   };

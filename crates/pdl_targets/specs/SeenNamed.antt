@@ -4,4 +4,4 @@ use Rattle.pdl_targets.specs.declared.naming.Named.{Named as NamedBits}
 use Rattle.pdl_targets.specs.Targets.{Named}
 
 abbrev pub seen_named : NamedBits → Named
-seen_named n = record { spots = n.spots.now; values = tern_bits n.values }
+seen_named n = record { spots = n.spots; values = tern_bits n.values }

@@ -15,14 +15,14 @@ use crate::things::{spots_of, thing_at};
 use crate::values::value_bits;
 use ij_bits::{List, Tern};
 use ij_text::Place;
-use net_graph::{Net, ReadBit, Spot, Thing, WriteBit};
+use net_graph::{Net, ReadBit, SpotPart, Thing, WriteBit};
 use pdl_parser::{Target, Value};
 use std::alloc::Global;
 
 /// The bits of a target, and those of its value.
 #[derive(Drop)]
 pub(crate) struct Named<'a> {
-    pub spots: &'a [Spot],
+    pub spots: SpotPart<'a>,
     pub values: Tern,
 }
 
@@ -61,12 +61,12 @@ fn named_bits<'a>(
     requires index { IsIndex net.now index.now }
     ensures named { Finds seen_named
         (named net.now at node (seen_target target.now) (seen_value value.now)) result }
-    ensures wide { IfOk result (λ n. length n.values.value.items ≡ length n.spots.now) }
-    ensures few { IfOk result (λ n. length n.spots.now < 2 ^ 32) }
+    ensures wide { IfOk result (λ n. length n.values.value.items ≡ length n.spots) }
+    ensures few { IfOk result (λ n. length n.spots < 2 ^ 32) }
 {
     let thing = target_thing(alloc, net, index, at, node, target)?;
     let spots = spots_of(at, thing, target.range)?;
-    let values = value_bits(alloc, at, thing, value, spots.len() as u32)?;
+    let values = value_bits(alloc, at, thing, value, spots.len())?;
     Ok(Named { spots, values })
 }
 
@@ -86,7 +86,7 @@ pub(crate) fn write_bits(
         (write_bits net.now at node (seen_target target.now) (seen_value value.now)) result }
 {
     let named = named_bits(alloc, net, index, at, node, target, value)?;
-    writes_of(alloc, net, &index.selects, at, named.spots, &named.values)
+    writes_of(alloc, net, &index.selects, at, &named.spots, &named.values)
 }
 
 /// The reads of an iRead without a value.
@@ -131,7 +131,7 @@ fn value_read(
         &index.captors,
         at,
         number,
-        named.spots,
+        &named.spots,
         &named.values,
     )
 }

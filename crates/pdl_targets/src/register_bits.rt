@@ -12,7 +12,7 @@ use crate::picks::{Picked, flip_if, select_compared, written};
 use crate::values::value_at;
 use ij_bits::{List, Tern};
 use ij_text::Place;
-use net_graph::{BitMarks, Net, ReadBit, Spot, WriteBit, is_marked_select};
+use net_graph::{BitMarks, Net, ReadBit, SpotPart, WriteBit, is_marked_select};
 use std::alloc::Global;
 
 /// The write of a bit that stands for a register bit.
@@ -74,7 +74,7 @@ pub(crate) fn writes_of(
     net: &Net,
     selects: &BitMarks,
     at: Place,
-    spots: &[Spot],
+    spots: &SpotPart<'_>,
     values: &Tern,
 ) -> Result<List<WriteBit>, TargetFault>
     requires selects { AreSelects net.now selects.now }
@@ -84,8 +84,9 @@ pub(crate) fn writes_of(
 {
     let mut writes = List::new(alloc);
     for i in 0..spots.len() {
-        match value_at(values, i as u32) {
-            Some(value) => match write_bit(net, selects, at, written(spots[i]), value) {
+        let spot = spots.get(i);
+        match value_at(values, i) {
+            Some(value) => match write_bit(net, selects, at, written(spot), value) {
                 Ok(write) => writes.push(write)?,
                 Err(fault) => return Err(fault),
             },
@@ -103,7 +104,7 @@ pub(crate) fn reads_of(
     captors: &Captors,
     at: Place,
     read: u32,
-    spots: &[Spot],
+    spots: &SpotPart<'_>,
     values: &Tern,
 ) -> Result<List<ReadBit>, TargetFault>
     requires selects { AreSelects net.now selects.now }
@@ -114,10 +115,11 @@ pub(crate) fn reads_of(
 {
     let mut reads = List::new(alloc);
     for i in 0..spots.len() {
-        match value_at(values, i as u32) {
+        let spot = spots.get(i);
+        match value_at(values, i) {
             Some(value) => {
-                let picked = compared(net, captors, spots[i]);
-                match read_bit(net, selects, at, read, i as u32, picked, value) {
+                let picked = compared(net, captors, spot);
+                match read_bit(net, selects, at, read, i, picked, value) {
                     Ok(bit) => reads.push(bit)?,
                     Err(fault) => return Err(fault),
                 }

@@ -14,7 +14,7 @@ use crate::fault::TargetFault;
 use crate::index::{Index, thing_key};
 use ij_bits::{List, OutOfMemory};
 use ij_text::{Name, Place};
-use net_graph::{Net, Spot, Thing};
+use net_graph::{Net, SpotPart, Thing};
 use pdl_expand::put_names;
 use std::alloc::Global;
 
@@ -152,16 +152,17 @@ fn has_index(thing: &Thing, i: u32) -> bool
 }
 
 /// The bits from a left index to a right one, position 0 first.
-fn slice_of(at: Place, thing: &Thing, left: u32, right: u32) -> Result<&[Spot], TargetFault>
+fn slice_of(at: Place, thing: &Thing, left: u32, right: u32) -> Result<SpotPart<'_>, TargetFault>
     requires { length thing.now.bits.items
         ≡ (thing.now.left - thing.now.right) + (thing.now.right - thing.now.left) + 1 }
-    ensures spots { Finds (λ spots. spots.now) (slice_of at thing.now left right) result }
-    ensures few { IfOk result (λ spots. length spots.now ≤ length thing.now.bits.items) }
+    ensures spots { Finds (λ spots. spots) (slice_of at thing.now left right) result }
+    ensures few { IfOk result (λ spots. length spots ≤ length thing.now.bits.items) }
 {
-    let from = position_of(thing, right) as usize;
-    let to = position_of(thing, left) as usize;
+    let from = position_of(thing, right);
+    let to = position_of(thing, left);
     if has_index(thing, left) && has_index(thing, right) && to >= from {
-        Ok(&thing.bits.as_slice()[from..to + 1])
+        let _count = thing.bits.len();
+        Ok(thing.bits.part(from, to - from + 1))
     } else {
         Err(TargetFault::NoTarget { at })
     }
@@ -172,14 +173,14 @@ pub(crate) fn spots_of(
     at: Place,
     thing: &Thing,
     range: Option<(u32, u32)>,
-) -> Result<&[Spot], TargetFault>
+) -> Result<SpotPart<'_>, TargetFault>
     requires { length thing.now.bits.items
         ≡ (thing.now.left - thing.now.right) + (thing.now.right - thing.now.left) + 1 }
-    ensures spots { Finds (λ spots. spots.now) (spots_of at thing.now range) result }
-    ensures few { IfOk result (λ spots. length spots.now ≤ length thing.now.bits.items) }
+    ensures spots { Finds (λ spots. spots) (spots_of at thing.now range) result }
+    ensures few { IfOk result (λ spots. length spots ≤ length thing.now.bits.items) }
 {
     match range {
-        None => Ok(thing.bits.as_slice()),
+        None => Ok(thing.bits.all()),
         Some((left, right)) => slice_of(at, thing, left, right),
     }
 }

@@ -24,7 +24,7 @@ use svf_writer::put_list;
 
 /// Writes a scan that compares nothing.
 #[tactic(auto, unfolding(ij_io::specs::Words::words_text))]
-fn put_quiet<'a, K: Sink>(tdi: &'a Bits, k: &mut K) -> Result<(), StoreFault>
+fn put_scan<'a, K: Sink>(tdi: &'a Bits, k: &mut K) -> Result<(), StoreFault>
     ensures whole { OnOk result
         (Adds (K.taken k.old) (K.taken k.new) (text_of (SDR (quiet_scan tdi.now.items)))) }
     ensures part { OnErr result
@@ -39,7 +39,7 @@ fn put_quiet<'a, K: Sink>(tdi: &'a Bits, k: &mut K) -> Result<(), StoreFault>
 
 /// Writes a scan that compares TDO where MASK is 1.
 #[tactic(auto, unfolding(ij_io::specs::Words::words_text))]
-fn put_comparing<'a, K: Sink>(
+fn put_scan_compared<'a, K: Sink>(
     tdi: &'a Bits,
     tdo: &'a Bits,
     mask: &'a Bits,
@@ -91,8 +91,8 @@ pub(crate) fn put_plan<K: Sink>(
         &mut buffers.mask,
     );
     if plan.reads.is_empty() {
-        put_quiet(&buffers.tdi, k)
+        put_scan(&buffers.tdi, k)
     } else {
-        put_comparing(&buffers.tdi, &buffers.tdo, &buffers.mask, k)
+        put_scan_compared(&buffers.tdi, &buffers.tdo, &buffers.mask, k)
     }
 }

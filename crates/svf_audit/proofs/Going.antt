@@ -16,26 +16,26 @@ use Rattle.tap_machine.specs.declared.Stable.TheVariants.{Idle as InIdle}
 use Rattle.tap_machine.specs.Play.{LastScan, after_scan, expected, is_empty, played}
 use Rattle.svf_audit.specs.declared.answer.Cause.TheVariants.{Length, Compare, Select, Step, Write, Read, Run}
 use Rattle.svf_audit.specs.declared.answer.Cause.TheVariants.{Reset}
-use Rattle.svf_audit.specs.declared.kept.Kept.{Kept}
+use Rattle.svf_audit.specs.declared.last_parts.LastParts.{LastParts}
 use Rattle.svf_audit.specs.Audit.{Reading, State, changed, compares, do_group, does_reads, does_writes}
 use Rattle.svf_audit.specs.Audit.{has_row, load, need, need_some, note, pass, reset, scan, scanned, was_reset}
 use Rattle.svf_audit.specs.Auditing.{act, ok}
-use Rattle.svf_audit.specs.Kept.{looked_for, seen_kept, seen_tdi}
+use Rattle.svf_audit.specs.LastParts.{looked_for, seen_last, seen_tdi}
 use Rattle.svf_audit.specs.Work.{Work, Group, Cycle, Reset as ResetWork, due, group_first, after_cycles}
 use Rattle.svf_audit.specs.Work.{after_reset}
 use Rattle.std.proofs.lemmas.Bool.{ne_eqb}
 
 -- ---- what a scan shifts and looks for
 
-pub kept_length : (k : Kept) (last : LastScan) (x : SeenScan)
-    → seen_kept k ≡ after_scan last x → k.len ≡ x.len
+pub kept_length : (k : LastParts) (last : LastScan) (x : SeenScan)
+    → seen_last k ≡ after_scan last x → k.len ≡ x.len
 kept_length k last x e = ap (λ z. z.len) e
 
-pub kept_tdi : (k : Kept) (last : LastScan) (x : SeenScan)
-    → seen_kept k ≡ after_scan last x → seen_tdi k ≡ (played last x).tdi
+pub kept_tdi : (k : LastParts) (last : LastScan) (x : SeenScan)
+    → seen_last k ≡ after_scan last x → seen_tdi k ≡ (played last x).tdi
 kept_tdi k last x e = ap (λ z. z.tdi) e
 
-pub kept_looks : (k : Kept) (last : LastScan) (x : SeenScan) → seen_kept k ≡ after_scan last x
+pub kept_looks : (k : LastParts) (last : LastScan) (x : SeenScan) → seen_last k ≡ after_scan last x
     → looked_for k x.tdo ≡ (played last x).expects
 kept_looks k last x e = ap (λ z. expected z.len x.tdo z.mask) e
 

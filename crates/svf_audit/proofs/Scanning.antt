@@ -15,7 +15,7 @@ use Rattle.tap_machine.specs.Play.{after_scan, is_empty, played}
 use Rattle.svf_audit.specs.Audit.{Reading, State, bits_on, changed, compares, do_group, has_row, scan}
 use Rattle.svf_audit.specs.Audit.{scanned, was_reset}
 use Rattle.svf_audit.specs.Auditing.{act, ok, state_of, Step, Stops}
-use Rattle.svf_audit.specs.Kept.{seen_kept}
+use Rattle.svf_audit.specs.LastParts.{seen_last}
 use Rattle.svf_audit.specs.Left.{work_left}
 use Rattle.svf_audit.specs.Registers.{differs, path_in, AreShifted}
 use Rattle.svf_audit.specs.Work.{Work}
@@ -23,7 +23,7 @@ use Rattle.svf_audit.specs.declared.answer.Cause.{Cause}
 use Rattle.svf_audit.specs.declared.auditor.Auditor.{Auditor}
 use Rattle.svf_audit.specs.declared.auditor.Halt.{Halt}
 use Rattle.svf_audit.specs.declared.auditor.Halt.TheVariants.{OutOfMemory as MemoryHalt, Cause as CauseHalt}
-use Rattle.svf_audit.specs.declared.kept.Kept.{Kept}
+use Rattle.svf_audit.specs.declared.last_parts.LastParts.{LastParts}
 use Rattle.svf_audit.specs.declared.registers.Registers.{Registers}
 use Rattle.svf_audit.proofs.Going.{scan_acts}
 use Rattle.svf_audit.proofs.Moving.{filter_both}
@@ -75,7 +75,7 @@ module _ (a : Auditor) (r : Registers) (x : SeenScan) (net : r.net.now ≡ a.reg
   path = route_of a.registers.net.now a.registers.holds
 
   abbrev tdi : List Bool
-  tdi = (played (seen_kept a.dr) x).tdi
+  tdi = (played (seen_last a.dr) x).tdi
 
   abbrev pub after : Holds
   after = put_chain path tdi a.registers.holds
@@ -156,8 +156,8 @@ scan_stops a r x net holds s len rows (CauseHalt cause) h =
     ∙ act_fails a r x net holds rs cause s (h rs)
 
 -- what a data scan leaves
-pub data_goes : (net : Net) (a z : Auditor) (k : Kept) (x : SeenScan) (rs more : List Reading)
-    → z.linked ≡ a.linked → z.ir ≡ a.ir → z.scans ≡ a.scans → seen_kept k ≡ after_scan (seen_kept a.dr) x
+pub data_goes : (net : Net) (a z : Auditor) (k : LastParts) (x : SeenScan) (rs more : List Reading)
+    → z.linked ≡ a.linked → z.ir ≡ a.ir → z.scans ≡ a.scans → seen_last k ≡ after_scan (seen_last a.dr) x
     → ok (scanned net a.device.now (state_of a rs) x z.registers.holds more (work_left z.left))
     ≡ ok (state_of (record z { rest = Idle; dr = k; scans = z.scans + 1 }) more)
 data_goes net a z k x rs more l i s e =
@@ -165,8 +165,8 @@ data_goes net a z k x rs more l i s e =
       holds = z.registers.holds;
       linked = t;
       rest = Idle;
-      ir = seen_kept a.ir;
-      dr = after_scan (seen_kept a.dr) x;
+      ir = seen_last a.ir;
+      dr = after_scan (seen_last a.dr) x;
       scans = suc a.scans;
       readings = more;
       left = work_left z.left;
@@ -176,8 +176,8 @@ data_goes net a z k x rs more l i s e =
       holds = z.registers.holds;
       linked = z.linked;
       rest = Idle;
-      ir = seen_kept t;
-      dr = after_scan (seen_kept a.dr) x;
+      ir = seen_last t;
+      dr = after_scan (seen_last a.dr) x;
       scans = suc a.scans;
       readings = more;
       left = work_left z.left;
@@ -187,7 +187,7 @@ data_goes net a z k x rs more l i s e =
       holds = z.registers.holds;
       linked = z.linked;
       rest = Idle;
-      ir = seen_kept z.ir;
+      ir = seen_last z.ir;
       dr = t;
       scans = suc a.scans;
       readings = more;
@@ -197,8 +197,8 @@ data_goes net a z k x rs more l i s e =
       holds = z.registers.holds;
       linked = z.linked;
       rest = Idle;
-      ir = seen_kept z.ir;
-      dr = seen_kept k;
+      ir = seen_last z.ir;
+      dr = seen_last k;
       scans = t;
       readings = more;
       left = work_left z.left;
@@ -216,8 +216,8 @@ reset_leaves a z r rs g i d s h =
       holds = reset_holds t.net.now t.holds;
       linked = false;
       rest = InReset;
-      ir = seen_kept a.ir;
-      dr = seen_kept a.dr;
+      ir = seen_last a.ir;
+      dr = seen_last a.dr;
       scans = a.scans;
       readings = rs;
       left = work_left z.left;
@@ -227,8 +227,8 @@ reset_leaves a z r rs g i d s h =
       holds = t;
       linked = false;
       rest = InReset;
-      ir = seen_kept a.ir;
-      dr = seen_kept a.dr;
+      ir = seen_last a.ir;
+      dr = seen_last a.dr;
       scans = a.scans;
       readings = rs;
       left = work_left z.left;
@@ -237,8 +237,8 @@ reset_leaves a z r rs g i d s h =
       holds = r.holds;
       linked = false;
       rest = InReset;
-      ir = seen_kept t;
-      dr = seen_kept a.dr;
+      ir = seen_last t;
+      dr = seen_last a.dr;
       scans = a.scans;
       readings = rs;
       left = work_left z.left;
@@ -247,8 +247,8 @@ reset_leaves a z r rs g i d s h =
       holds = r.holds;
       linked = false;
       rest = InReset;
-      ir = seen_kept z.ir;
-      dr = seen_kept t;
+      ir = seen_last z.ir;
+      dr = seen_last t;
       scans = a.scans;
       readings = rs;
       left = work_left z.left;
@@ -257,8 +257,8 @@ reset_leaves a z r rs g i d s h =
       holds = r.holds;
       linked = false;
       rest = InReset;
-      ir = seen_kept z.ir;
-      dr = seen_kept z.dr;
+      ir = seen_last z.ir;
+      dr = seen_last z.dr;
       scans = t;
       readings = rs;
       left = work_left z.left;

@@ -14,7 +14,7 @@ use Rattle.tap_machine.specs.Play.{is_empty, played}
 use Rattle.svf_audit.specs.Audit.{Reading, State, Says, at_end, changed, compares, do_group as do_due}
 use Rattle.svf_audit.specs.Audit.{does_reads, does_writes, need, reset as reset_by, scan as scan_of, scanned}
 use Rattle.svf_audit.specs.Audit.{step as step_of, was_reset}
-use Rattle.svf_audit.specs.Kept.{AreKept, seen_kept}
+use Rattle.svf_audit.specs.LastParts.{AreLastParts, seen_last}
 use Rattle.svf_audit.specs.Left.{IsWithin, work_left}
 use Rattle.svf_audit.specs.Registers.{path_in, AreRegisters, AreStill}
 use Rattle.svf_audit.specs.declared.answer.Audit.{Audit}
@@ -30,8 +30,8 @@ use Rattle.svf_audit.specs.declared.registers.Registers.{Registers}
 pub record IsAuditor (a : Auditor) : Type 0 where
   pub registers : AreRegisters a.registers
   pub still : AreStill a.registers
-  pub ir : AreKept a.ir
-  pub dr : AreKept a.dr
+  pub ir : AreLastParts a.ir
+  pub dr : AreLastParts a.dr
   pub marks : HaveMarks a.registers.net.now a.marks
   pub within : IsWithin a.left
   pub steps : All (IsStep a.registers.net.now) (map seen_step a.left.steps.now.items)
@@ -42,8 +42,8 @@ state_of a readings = record {
   holds = a.registers.holds;
   linked = a.linked;
   rest = a.rest;
-  ir = seen_kept a.ir;
-  dr = seen_kept a.dr;
+  ir = seen_last a.ir;
+  dr = seen_last a.dr;
   scans = a.scans;
   readings = readings;
   left = work_left a.left;

@@ -7,7 +7,7 @@ ghost use Rattle.svf_writer.specs.Fits.{AreFitAfter};
 ghost use Rattle.tap_machine.specs.Play.{scans_in};
 ghost use Rattle.svf_audit.specs.Audit.{Says, audit, audit_from};
 ghost use Rattle.svf_audit.specs.Auditing.{AreNoted, Ends, IsAuditor, IsNo, state_of};
-ghost use Rattle.svf_audit.specs.Kept.{last_length};
+ghost use Rattle.svf_audit.specs.LastParts.{last_length};
 
 use crate::answer::{Audit, Cause};
 use crate::auditor::{Auditor, Halt};
@@ -47,13 +47,13 @@ fn stopped(halt: Halt, scan: u32) -> Result<Audit, OutOfMemory>
 
 /// Why an audit goes no further, and how many scans there are up to there.
 #[derive(Clone, Copy, Drop)]
-pub(crate) struct Stop {
+pub(crate) struct AuditStop {
     pub halt: Halt,
     pub scan: u32,
 }
 
 /// Takes all commands, one after the other, as far as the audit goes.
-fn step_all<'a>(auditor: &mut Auditor<'a>, commands: &'a Commands) -> Result<(), Stop>
+fn step_all<'a>(auditor: &mut Auditor<'a>, commands: &'a Commands) -> Result<(), AuditStop>
     requires sound { IsAuditor auditor.old }
     requires noted { AreNoted auditor.old [] }
     requires fit { AreFitAfter (last_length auditor.old.ir) (last_length auditor.old.dr) commands.now }
@@ -67,7 +67,7 @@ fn step_all<'a>(auditor: &mut Auditor<'a>, commands: &'a Commands) -> Result<(),
     for i in 0..commands.len() {
         let command = commands.get(i);
         if let Err(halt) = auditor.step(command) {
-            return Err(Stop {
+            return Err(AuditStop {
                 halt,
                 scan: auditor.scans + scans_of(command),
             });

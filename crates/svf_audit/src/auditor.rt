@@ -20,20 +20,20 @@ ghost use Rattle.svf_audit.specs.Audit.{step as step_of};
 ghost use Rattle.svf_audit.specs.Auditing.{act as act_of, last_dr, last_ir, state_of, AreNoted, DidAct};
 ghost use Rattle.svf_audit.specs.Auditing.{DidGroup, DidReach, DidReset, DidScan, Does, FitsNext, Follows};
 ghost use Rattle.svf_audit.specs.Auditing.{IsAuditor, Stops};
-ghost use Rattle.svf_audit.specs.Kept.{last_length, looked_for, seen_kept, AreKept};
+ghost use Rattle.svf_audit.specs.LastParts.{last_length, looked_for, seen_last, AreLastParts};
 ghost use Rattle.svf_audit.specs.Left.{work_left, IsWithin};
 ghost use Rattle.svf_audit.specs.Registers.{path_in, AreFound, AreRegisters, AreShifted, AreStill};
 ghost use Rattle.svf_audit.specs.Work.{due};
 
 use crate::answer::Cause;
-use crate::kept::{Kept, compares_some, is_number, kept_after, nothing_kept};
+use crate::last_parts::{LastParts, compares_some, is_number, no_last_parts, parts_after};
 use crate::left::Left;
 use crate::registers::Registers;
 use crate::scan::{does_reads, does_writes, some_data};
 use ij_bits::{List, OutOfMemory};
 use net_graph::{BitMarks, BitStep, Device, Group, Net, marks_law};
 use std::alloc::Global;
-use svf_writer::{Command, Part, Scan};
+use svf_writer::{Command, Scan, ScanPart};
 use tap_machine::Stable;
 
 /// Why an audit goes no further.
@@ -62,8 +62,8 @@ pub(crate) struct Auditor<'a> {
     pub registers: Registers<'a>,
     pub linked: bool,
     pub rest: Stable,
-    pub ir: Kept<'a>,
-    pub dr: Kept<'a>,
+    pub ir: LastParts<'a>,
+    pub dr: LastParts<'a>,
     pub scans: u32,
     pub readings: List<u32>,
     pub left: Left<'a>,
@@ -86,15 +86,15 @@ fn note(readings: &mut List<u32>, scan: u32, group: &Group) -> Result<(), OutOfM
 fn does(
     r: &Registers,
     marks: &mut BitMarks,
-    kept: &Kept,
-    tdo: &Part,
+    kept: &LastParts,
+    tdo: &ScanPart,
     group: &Group,
 ) -> Result<(), Cause>
     requires sound { AreRegisters r.now }
     requires found { AreFound r.now }
     requires shifted { AreShifted r.now }
     requires marks { HaveMarks r.now.net.now marks.old }
-    requires kept { AreKept kept.now }
+    requires kept { AreLastParts kept.now }
     requires tdo { HasLength kept.now.len tdo.now }
     requires fits { kept.now.len ≡ length (chain (path_in r.now) r.now.holds) }
     requires group { IsGroup r.now.net.now (seen_group group.now) }
@@ -146,8 +146,8 @@ impl<'a> Auditor<'a> {
             registers,
             linked: false,
             rest: Stable::Reset,
-            ir: nothing_kept(),
-            dr: nothing_kept(),
+            ir: no_last_parts(),
+            dr: no_last_parts(),
             scans: 0,
             readings: List::new(alloc),
             left: Left::all(steps),
@@ -169,7 +169,7 @@ impl<'a> Auditor<'a> {
         ensures ir { OnOk result (last_length self.new.ir ≡ Some scan.now.len) }
         ensures dr { OnOk result (last_length self.new.dr ≡ last_length self.old.dr) }
     {
-        let kept = kept_after(self.ir, scan);
+        let kept = parts_after(self.ir, scan);
         if scan.len != self.device.ir {
             return Err(Halt::Cause(Cause::Length));
         }
@@ -184,9 +184,9 @@ impl<'a> Auditor<'a> {
     }
 
     /// Whether the scan at hand changes or compares a data bit.
-    fn acts(&self, kept: &Kept, tdo: &Part) -> bool
+    fn acts(&self, kept: &LastParts, tdo: &ScanPart) -> bool
         requires sound { AreRegisters self.now.registers }
-        requires kept { AreKept kept.now }
+        requires kept { AreLastParts kept.now }
         requires tdo { HasLength kept.now.len tdo.now }
         ensures { result ≡ (list_any (λ b. not (is_select self.now.registers.net.now b))
             self.now.registers.moved.items || list_any is_some (looked_for kept.now tdo.now)) }
@@ -196,12 +196,12 @@ impl<'a> Auditor<'a> {
     }
 
     /// The scan at hand does the group that is due.
-    fn do_group(&mut self, kept: &Kept, scan: &Scan) -> Result<(), Halt>
+    fn do_group(&mut self, kept: &LastParts, scan: &Scan) -> Result<(), Halt>
         requires sound { AreRegisters self.old.registers }
         requires found { AreFound self.old.registers }
         requires shifted { AreShifted self.old.registers }
-        requires kept { AreKept kept.now }
-        requires next { seen_kept kept.now ≡ after_scan (seen_kept self.old.dr) (seen_scan scan.now) }
+        requires kept { AreLastParts kept.now }
+        requires next { seen_last kept.now ≡ after_scan (seen_last self.old.dr) (seen_scan scan.now) }
         requires tdo { HasLength kept.now.len scan.now.tdo }
         requires fits { kept.now.len ≡ length (chain (path_in self.old.registers) self.old.registers.holds) }
         requires within { IsWithin self.old.left }
@@ -231,12 +231,12 @@ impl<'a> Auditor<'a> {
 
     /// What the scan at hand does: nothing, where it changes and compares no data bit, or the group that is
     /// due.
-    fn act(&mut self, kept: &Kept, scan: &Scan) -> Result<(), Halt>
+    fn act(&mut self, kept: &LastParts, scan: &Scan) -> Result<(), Halt>
         requires sound { AreRegisters self.old.registers }
         requires found { AreFound self.old.registers }
         requires shifted { AreShifted self.old.registers }
-        requires kept { AreKept kept.now }
-        requires next { seen_kept kept.now ≡ after_scan (seen_kept self.old.dr) (seen_scan scan.now) }
+        requires kept { AreLastParts kept.now }
+        requires next { seen_last kept.now ≡ after_scan (seen_last self.old.dr) (seen_scan scan.now) }
         requires tdo { HasLength kept.now.len scan.now.tdo }
         requires fits { kept.now.len ≡ length (chain (path_in self.old.registers) self.old.registers.holds) }
         requires within { IsWithin self.old.left }
@@ -260,10 +260,10 @@ impl<'a> Auditor<'a> {
     }
 
     /// A data scan of the network.
-    fn scan(&mut self, kept: &Kept, scan: &Scan) -> Result<(), Halt>
+    fn scan(&mut self, kept: &LastParts, scan: &Scan) -> Result<(), Halt>
         requires sound { IsAuditor self.old }
-        requires kept { AreKept kept.now }
-        requires next { seen_kept kept.now ≡ after_scan (seen_kept self.old.dr) (seen_scan scan.now) }
+        requires kept { AreLastParts kept.now }
+        requires next { seen_last kept.now ≡ after_scan (seen_last self.old.dr) (seen_scan scan.now) }
         requires tdo { HasLength kept.now.len scan.now.tdo }
         requires few { self.old.scans + 1 < 2 ^ 32 }
         ensures ok { OnOk result (DidScan self.old self.new (seen_scan scan.now)) }
@@ -298,10 +298,10 @@ impl<'a> Auditor<'a> {
     }
 
     /// A data scan, whether it reaches the network or not.
-    fn reach(&mut self, kept: &Kept, scan: &Scan) -> Result<(), Halt>
+    fn reach(&mut self, kept: &LastParts, scan: &Scan) -> Result<(), Halt>
         requires sound { IsAuditor self.old }
-        requires kept { AreKept kept.now }
-        requires next { seen_kept kept.now ≡ after_scan (seen_kept self.old.dr) (seen_scan scan.now) }
+        requires kept { AreLastParts kept.now }
+        requires next { seen_last kept.now ≡ after_scan (seen_last self.old.dr) (seen_scan scan.now) }
         requires tdo { HasLength kept.now.len scan.now.tdo }
         requires few { self.old.scans + 1 < 2 ^ 32 }
         ensures ok { OnOk result (DidReach self.old self.new (seen_scan scan.now)) }
@@ -343,7 +343,7 @@ impl<'a> Auditor<'a> {
         ensures ir { OnOk result (last_length self.new.ir ≡ last_length self.old.ir) }
         ensures dr { OnOk result (last_length self.new.dr ≡ Some scan.now.len) }
     {
-        let kept = kept_after(self.dr, scan);
+        let kept = parts_after(self.dr, scan);
         if let Err(halt) = self.reach(&kept, scan) {
             return Err(halt);
         }

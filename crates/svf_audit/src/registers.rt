@@ -11,11 +11,11 @@ ghost use Rattle.net_graph.specs.Path.{is_select, same_place};
 ghost use Rattle.net_graph.specs.Resets.{reset_holds, start_holds};
 ghost use Rattle.net_graph.specs.Signals.{hold_at};
 ghost use Rattle.svf_audit.specs.Audit.{bits_on, has_row};
-ghost use Rattle.svf_audit.specs.Kept.{AreKept, seen_tdi};
+ghost use Rattle.svf_audit.specs.LastParts.{AreLastParts, seen_tdi};
 ghost use Rattle.svf_audit.specs.Registers.{path_in, to_move, AreFound, AreListed, AreRegisters, AreShifted};
 ghost use Rattle.svf_audit.specs.Registers.{AreStill, IsTurned};
 
-use crate::kept::{Kept, tdi_at, tdi_number};
+use crate::last_parts::{LastParts, tdi_at, tdi_number};
 use crate::scan::{have_rows, some_select};
 use ij_bits::{Bits, List, OutOfMemory};
 use net_graph::{BitId, BitMarks, Holds, Net, find_path, selects_of};
@@ -254,8 +254,8 @@ impl<'a> Registers<'a> {
     }
 
     /// Puts one bit of TDI on the path.
-    fn turn(&mut self, kept: &Kept, k: u32)
-        requires kept { AreKept kept.now }
+    fn turn(&mut self, kept: &LastParts, k: u32)
+        requires kept { AreLastParts kept.now }
         requires turned { IsTurned self.old (seen_tdi kept.now) k }
         requires within { k < length self.old.chain.items }
         ensures turned { IsTurned self.new (seen_tdi kept.now) (k + 1) }
@@ -276,8 +276,8 @@ impl<'a> Registers<'a> {
     }
 
     /// Puts bits of TDI on the path, one after the other.
-    fn turn_some(&mut self, kept: &Kept, from: u32, n: u32)
-        requires kept { AreKept kept.now }
+    fn turn_some(&mut self, kept: &LastParts, from: u32, n: u32)
+        requires kept { AreLastParts kept.now }
         requires turned { IsTurned self.old (seen_tdi kept.now) from }
         requires within { from + n ≤ length self.old.chain.items }
         ensures turned { IsTurned self.new (seen_tdi kept.now) (from + n) }
@@ -293,8 +293,8 @@ impl<'a> Registers<'a> {
     }
 
     /// Puts at most 64 bits of TDI on the path. Nothing is done where they are there already.
-    fn turn_word(&mut self, kept: &Kept, from: u32, n: u32)
-        requires kept { AreKept kept.now }
+    fn turn_word(&mut self, kept: &LastParts, from: u32, n: u32)
+        requires kept { AreLastParts kept.now }
         requires few { n ≤ 64 }
         requires turned { IsTurned self.old (seen_tdi kept.now) from }
         requires within { from + n ≤ length self.old.chain.items }
@@ -312,8 +312,8 @@ impl<'a> Registers<'a> {
     }
 
     /// Puts TDI on the path.
-    fn turn_all(&mut self, kept: &Kept)
-        requires kept { AreKept kept.now }
+    fn turn_all(&mut self, kept: &LastParts)
+        requires kept { AreLastParts kept.now }
         requires turned { IsTurned self.old (seen_tdi kept.now) 0 }
         ensures turned { IsTurned self.new (seen_tdi kept.now) (length self.old.chain.items) }
         ensures moves { to_move self.new (seen_tdi kept.now) (length self.old.chain.items)
@@ -330,12 +330,12 @@ impl<'a> Registers<'a> {
 
     /// Puts TDI on the path: what the registers hold after the scan, and which bits change. What they hold
     /// stays.
-    pub fn shift(&mut self, kept: &Kept)
+    pub fn shift(&mut self, kept: &LastParts)
         requires sound { AreRegisters self.old }
         requires still { AreStill self.old }
         requires found { AreFound self.old }
         requires chain { self.old.chain.items ≡ chain (path_in self.old) self.old.holds }
-        requires kept { AreKept kept.now }
+        requires kept { AreLastParts kept.now }
         requires fits { kept.now.len ≡ length (chain (path_in self.old) self.old.holds) }
         ensures sound { AreRegisters self.new }
         ensures found { AreFound self.new }

@@ -23,7 +23,8 @@ use Rattle.tap_machine.specs.Play.{no_scan, pins, scans_in}
 use Rattle.tap_machine.proofs.Clocks.{at_least}
 use Rattle.svf_notes.specs.Explained.{explained, explained_text}
 use Rattle.svf_notes.specs.Laws.{ReadScansAreNumbered, counted}
-use Rattle.svf_notes.specs.Noted.{AreNotesOf, IsNoteOf, IsScanFrom, NotesFollowTheirScans, Part, ScansBegin}
+use Rattle.svf_notes.specs.Noted.{AreNotesOf, IsNoteOf, IsScanFrom, NotesFollowTheirScans, BitPart}
+use Rattle.svf_notes.specs.Noted.{ScansBegin}
 use Rattle.svf_notes.specs.Noted.{before_scan, noted, played_at, state_before}
 use Rattle.svf_notes.specs.Notes.{note_of, note_text, played_scans}
 use Rattle.svf_notes.specs.Reader.{read_note}
@@ -128,7 +129,7 @@ all_good fit within net device models src commands is e many =
 
 -- ---- a whole text
 
-are_notes : (net : Net) (device : Device) (parts : List Part) (rest : List ℕ) (xs : List (Scan Counts))
+are_notes : (net : Net) (device : Device) (parts : List BitPart) (rest : List ℕ) (xs : List (Scan Counts))
     → IsNet net → AllByRecursion (IsGood net) xs
     → AreBehind parts rest (map (λ x. note_text (note_of net device x)) xs)
     → AreNotesOf net device parts rest xs

@@ -14,7 +14,7 @@ use Rattle.ij_bits.specs.BitLists.{bits_eq, bits_of, has_one, number_of, same_bi
 use Rattle.ij_bits.proofs.Hex.{number_bit, number_is, number_of-lt, number_zero}
 use Rattle.ij_bits.proofs.WordBits.{get_or-bits_of, length-bits_of}
 use Rattle.tap_machine.proofs.Pieces.{bits_of_part, length-part, part_is}
-use Rattle.svf_notes.specs.declared.bits.Part.{Part}
+use Rattle.svf_notes.specs.declared.bits.BitPart.{BitPart}
 use Rattle.svf_notes.specs.declared.scan.Shifted.{Shifted}
 use Rattle.svf_notes.specs.Notes.{differs, is_compared, tdi_bits}
 use Rattle.svf_notes.specs.Packed.{AreAsMany, ScanItems, differing, expect_of, part_bits, together}
@@ -342,14 +342,14 @@ words_as_many n c e f ts len = record {
   found = length-bits_of n f ∙ sym len;
 }
 
-pub length-part_bits : (p : Part) → length (part_bits p) ≡ p.count
+pub length-part_bits : (p : BitPart) → length (part_bits p) ≡ p.count
 length-part_bits p =
     length-together (bits_of p.count p.tdi) (bits_of p.count p.compared) (bits_of p.count p.expected)
     (bits_of p.count p.found) (words_as_many p.count p.compared p.expected p.found
     (bits_of p.count p.tdi) (length-bits_of p.count p.tdi))
     ∙ length-bits_of p.count p.tdi
 
-pub part_at : (p : Part) (i : ℕ) → i < p.count
+pub part_at : (p : BitPart) (i : ℕ) → i < p.count
     → drop i (part_bits p) ≡ record {
       tdi = bit_at p.tdi i == 1;
       expect = expect_of (bit_at p.compared i == 1)
@@ -392,7 +392,7 @@ module _ (ts cs es fs : List Bool) (v : ScanItems) (is : record { items = togeth
   pub tdi_is : ts ≡ tdi_bits v.items
   tdi_is = sym (tdi-together ts cs es fs m) ∙ ap (λ r. tdi_bits r.items) is
 
-  pub appended : (p : Part) (t c e f : List Bool) → t ≡ ts ++ bits_of p.count p.tdi
+  pub appended : (p : BitPart) (t c e f : List Bool) → t ≡ ts ++ bits_of p.count p.tdi
       → c ≡ cs ++ bits_of p.count p.compared → e ≡ es ++ bits_of p.count p.expected
       → f ≡ fs ++ bits_of p.count p.found → together t c e f ≡ v.items ++ part_bits p
   appended p t c e f is_t is_c is_e is_f =

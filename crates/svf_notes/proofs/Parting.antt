@@ -14,20 +14,20 @@ use Rattle.svf_reader.specs.Meaning.{read_command, read_from, svf}
 use Rattle.svf_reader.proofs.Whole.{read_more}
 use Rattle.tap_machine.specs.Play.{scans_in}
 use Rattle.svf_notes.specs.Explained.{closing, note_at, notes_left, with_notes}
-use Rattle.svf_notes.specs.Noted.{Part, noted, through_scan, unnoted}
+use Rattle.svf_notes.specs.Noted.{BitPart, noted, through_scan, unnoted}
 use Rattle.svf_notes.proofs.Cutting.{cut}
 use Rattle.svf_notes.proofs.Effects.{Effect, read_effect}
 use Rattle.svf_notes.proofs.Same.{same_first}
 
 -- what comes after a part: a note, a line feed that may close it, and one that follows in any case
-pub record IsBehind (p : Part) (later note : List ℕ) : Type 0 where
+pub record IsBehind (p : BitPart) (later note : List ℕ) : Type 0 where
   pub feed : List ℕ
   pub at_most_one : (feed ≡ []) ⊎ (feed ≡ 10 ∷ [])
   pub is : p.note ≡ note ++ feed
   pub tail : List ℕ
   pub follows : p.note ++ later ≡ note ++ 10 ∷ tail
 
-abbrev pub AreBehind : List Part → List ℕ → List (List ℕ) → Type 0
+abbrev pub AreBehind : List BitPart → List ℕ → List (List ℕ) → Type 0
 AreBehind [] rest [] = Unit {0}
 AreBehind [] rest (n ∷ ns) = ⊥
 AreBehind (p ∷ ps) rest [] = ⊥
@@ -36,7 +36,7 @@ AreBehind (p ∷ ps) rest (n ∷ ns) = IsBehind p (noted ps rest) n × AreBehind
 -- a text, read after some commands, and the text with notes
 pub record IsParted (kept : Step) (src new : List ℕ) (notes : List (List ℕ))
     (commands : List SeenCommand) : Type 0 where
-  pub parts : List Part
+  pub parts : List BitPart
   pub rest : List ℕ
   pub old : src ≡ unnoted parts rest
   pub whole : new ≡ noted parts rest
@@ -123,7 +123,7 @@ unparted kept src new notes cs same none =
       behind = subst (AreBehind [] src) (sym none) tt;
     }
   where
-    cases : (k at : ℕ) → k ≤ length {A = Part} []
+    cases : (k at : ℕ) → k ≤ length {A = BitPart} []
         → read_from kept.1 at (texts (plain (unnoted (take k []) []))) ≡ Ok (through_scan k cs)
     cases zero at h = refl
     cases (suc k) at h = absurd (omega (arith, h))
@@ -184,7 +184,7 @@ module _ (kept : Step) (src t u : List ℕ) (us : List (List ℕ)) (cs : List Se
       (front ++ ((m ++ closing (drop n src)) ++ with_notes (u ∷ us) ms (drop n src))) (m ∷ ms) cs
   scan_parted m ms effect later same =
       let rest = drop n src in
-      let p : Part = record { text = front; note = m ++ closing rest } in
+      let p : BitPart = record { text = front; note = m ++ closing rest } in
       record {
         parts = p ∷ later.parts;
         rest = later.rest;
@@ -213,7 +213,7 @@ module _ (kept : Step) (src t u : List ℕ) (us : List (List ℕ)) (cs : List Se
   other_parted ms new effect later =
       by_parts later.parts later.rest later.old later.whole later.cuts later.behind
     where
-      by_parts : (parts : List Part) (rest : List ℕ) → drop n src ≡ unnoted parts rest
+      by_parts : (parts : List BitPart) (rest : List ℕ) → drop n src ≡ unnoted parts rest
           → new ≡ noted parts rest → ((k at : ℕ) → k ≤ length parts
           → read_from step.1 at (texts (plain (unnoted (take k parts) []))) ≡ Ok (through_scan k ds))
           → AreBehind parts rest ms → IsParted kept src (front ++ new) ms cs

@@ -117,16 +117,16 @@ said_of net device x = record { scan = x.number; rows = scan_rows net x (target 
 -- ---- a text that is cut after its scans
 
 -- a part of a text, up to the `;` of a scan, and what is written after it
-pub record Part : Type 0 where
+pub record BitPart : Type 0 where
   pub text : List ℕ
   pub note : List ℕ
 
 -- the parts, and what comes after all of them: without their notes, and with them
-abbrev pub unnoted : List Part → List ℕ → List ℕ
+abbrev pub unnoted : List BitPart → List ℕ → List ℕ
 unnoted [] rest = rest
 unnoted (p ∷ ps) rest = p.text ++ unnoted ps rest
 
-abbrev pub noted : List Part → List ℕ → List ℕ
+abbrev pub noted : List BitPart → List ℕ → List ℕ
 noted [] rest = rest
 noted (p ∷ ps) rest = p.text ++ (p.note ++ noted ps rest)
 
@@ -142,13 +142,14 @@ through_scan (suc k) (Run m ∷ cs) = Run m ∷ through_scan (suc k) cs
 
 -- after each part is the note of its scan and nothing more but a line feed (10), and a reader of all that
 -- follows finds it
-pub record IsNoteOf (net : Net) (device : Device) (p : Part) (later : List ℕ) (x : Scan Counts) : Type 0 where
+pub record IsNoteOf (net : Net) (device : Device) (p : BitPart) (later : List ℕ)
+    (x : Scan Counts) : Type 0 where
   pub feed : List ℕ
   pub at_most_one : (feed ≡ []) ⊎ (feed ≡ 10 ∷ [])
   pub note : p.note ≡ note_text (note_of net device x) ++ feed
   pub read : read_note (p.note ++ later) ≡ Some (said_of net device x)
 
-abbrev pub AreNotesOf : Net → Device → List Part → List ℕ → List (Scan Counts) → Type 0
+abbrev pub AreNotesOf : Net → Device → List BitPart → List ℕ → List (Scan Counts) → Type 0
 AreNotesOf net device [] rest [] = Unit {0}
 AreNotesOf net device [] rest (x ∷ xs) = ⊥
 AreNotesOf net device (p ∷ ps) rest [] = ⊥
@@ -159,7 +160,7 @@ AreNotesOf net device (p ∷ ps) rest (x ∷ xs) =
 -- and the note of the k-th scan is where a reader of SVF has read the commands up to the k-th scan
 pub record IsNoted (net : Net) (device : Device) (commands : List SeenCommand)
     (scans : List (Scan Counts)) (src new : List ℕ) : Type 0 where
-  pub parts : List Part
+  pub parts : List BitPart
   pub rest : List ℕ
   pub old : src ≡ unnoted parts rest
   pub whole : new ≡ noted parts rest

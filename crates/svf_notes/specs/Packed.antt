@@ -1,7 +1,7 @@
 -- The bits of a scan as lists of its four values, and as words.
 use Rattle.std.specs.Prelude.{◌≡◌, ◌&&◌, not, ℕ, Bool, cond, Option, None, Some, List, [], ◌∷◌, length}
 use Rattle.ij_bits.specs.BitLists.{bits_of, same_bit}
-use Rattle.svf_notes.specs.declared.bits.Part.{Part}
+use Rattle.svf_notes.specs.declared.bits.BitPart.{BitPart}
 use Rattle.svf_notes.specs.declared.scan.Shifted.{Shifted}
 
 -- the bits of a scan, position 0 first
@@ -27,7 +27,7 @@ pub record AreAsMany (n : ℕ) (cs es fs : List Bool) : Type 0 where
   pub expected : length es ≡ n
   pub found : length fs ≡ n
 
-abbrev pub part_bits : Part → List Shifted
+abbrev pub part_bits : BitPart → List Shifted
 part_bits p =
     together (bits_of p.count p.tdi) (bits_of p.count p.compared)
     (bits_of p.count p.expected) (bits_of p.count p.found)

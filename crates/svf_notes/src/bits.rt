@@ -13,7 +13,7 @@ use std::marker::Model;
 
 /// Up to 64 bits of a scan in a row. In each word of bits the lowest is that of the first of them.
 #[derive(Clone, Copy)]
-pub(crate) struct Part {
+pub(crate) struct BitPart {
     /// How many there are.
     pub count: u32,
     /// The bits at TDI.
@@ -33,7 +33,7 @@ fn expect_of(compared: bool, expected: bool) -> Option<bool>
     if compared { Some(expected) } else { None }
 }
 
-impl Part {
+impl BitPart {
     /// One of the bits.
     #[inline(always)]
     pub(crate) fn at(&self, i: u32) -> Shifted
@@ -161,7 +161,7 @@ impl ScanBits {
     }
 
     /// Adds some bits at the far end. A scan of 4,294,967,232 bits or more finds no room.
-    pub(crate) fn append(&mut self, part: &Part) -> Result<(), OutOfMemory>
+    pub(crate) fn append(&mut self, part: &BitPart) -> Result<(), OutOfMemory>
         requires { part.now.count ≤ 64 }
         ensures { OnOk result (self.new.items ≡ self.old.items ++ part_bits part.now) }
     {
@@ -182,13 +182,13 @@ impl ScanBits {
 
     /// Up to 64 of the bits, from a position on.
     #[inline(always)]
-    pub(crate) fn part(&self, at: u32, count: u32) -> Part
+    pub(crate) fn part(&self, at: u32, count: u32) -> BitPart
         requires few { count ≤ 64 }
         requires within { at + count ≤ length self.now.items }
         ensures count { result.count ≡ count }
         ensures bits { part_bits result ≡ take count (drop at self.now.items) }
     {
-        Part {
+        BitPart {
             count,
             tdi: self.tdi.number(at, count),
             compared: self.compared.number(at, count),

@@ -5,7 +5,7 @@ ghost use Rattle.report.specs.Registers.{digit};
 ghost use Rattle.svf_notes.specs.Notes as notes;
 ghost use Rattle.svf_notes.specs.Packed.{part_bits};
 
-use crate::bits::{Part, ScanBits};
+use crate::bits::{BitPart, ScanBits};
 use crate::scan::{Shifted, Shown};
 use ij_io::{Sink, StoreFault, SureSink};
 
@@ -43,7 +43,7 @@ fn digit_of(shown: Shown, bit: Shifted) -> u8
 
 /// Writes one value of each of up to 64 bits, the highest position first.
 #[inline(always)]
-fn put_some_digits(shown: Shown, part: &Part, note: &mut SureSink) -> Result<(), StoreFault>
+fn put_some_digits(shown: Shown, part: &BitPart, note: &mut SureSink) -> Result<(), StoreFault>
     requires { part.now.count ≤ 64 }
     ensures { OnOk result (Adds (Some note.old) (Some note.new) (notes.digits shown (part_bits part.now))) }
 {

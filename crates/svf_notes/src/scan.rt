@@ -5,7 +5,7 @@ ghost use Rattle.bench_report.specs.Report.{chip_of};
 ghost use Rattle.svf_notes.specs.Scans.{scans_of, shifted_bits};
 ghost use Rattle.tap_machine.specs.Pieces.{piece_pins};
 
-use crate::bits::{Part, ScanBits};
+use crate::bits::{BitPart, ScanBits};
 use ij_bits::OutOfMemory;
 use net_bench::{Bench, Played};
 use tap_machine::Player;
@@ -35,7 +35,7 @@ fn add_bits(played: &Played, bits: &mut ScanBits) -> Result<(), OutOfMemory>
     ensures { OnOk result (bits.new.items ≡ bits.old.items
         ++ shifted_bits (piece_pins played.now.piece) (bits_of played.now.piece.count played.now.found)) }
 {
-    bits.append(&Part {
+    bits.append(&BitPart {
         count: played.piece.count,
         tdi: played.piece.tdi,
         compared: played.piece.compared,

@@ -13,7 +13,7 @@ use crate::pieces::next_word;
 use crate::words::{all_hex, is_close};
 use ij_bits::{Bits, OutOfMemory};
 use std::alloc::Global;
-use svf_writer::Part;
+use svf_writer::ScanPart;
 
 /// The values of digits by their bytes, modulo 16.
 static DIGIT_VALUES: [u8; 256] = [
@@ -148,7 +148,7 @@ fn gathered(alloc: Global, len: u32, text: &[u8]) -> Result<Vec<u8>, OutOfMemory
 
 /// A part of at most 64 bits.
 #[tactic(auto, unfolding(crate::specs::Answers::part_value))]
-fn word_part(len: u32, digits: &[u8]) -> Result<Part, SvfCause>
+fn word_part(len: u32, digits: &[u8]) -> Result<ScanPart, SvfCause>
     requires { len ≤ 64 }
     ensures { Gives (λ p. p) result (part_value len (Some digits.now)) }
 {
@@ -157,20 +157,20 @@ fn word_part(len: u32, digits: &[u8]) -> Result<Part, SvfCause>
     if has_one_above(value, len) | have_one(parts.front) {
         return Err(SvfCause::HexWide);
     }
-    Ok(Part::of_number(len, value))
+    Ok(ScanPart::of_number(len, value))
 }
 
 /// A part of any number of bits.
 #[tactic(auto, unfolding(crate::specs::Answers::part_value, crate::specs::Meaning::hex_value))]
-fn list_part(alloc: Global, len: u32, digits: &[u8]) -> Result<Part, SvfCause>
+fn list_part(alloc: Global, len: u32, digits: &[u8]) -> Result<ScanPart, SvfCause>
     ensures { Gives (λ p. p) result (part_value len (Some digits.now)) }
 {
     let bits = digits_bits(alloc, len, digits)?;
-    Ok(Part::of_bits(alloc, bits)?)
+    Ok(ScanPart::of_bits(alloc, bits)?)
 }
 
 /// The part of some digits, of which the last has position 0.
-fn digits_part(alloc: Global, len: u32, digits: &[u8]) -> Result<Part, SvfCause>
+fn digits_part(alloc: Global, len: u32, digits: &[u8]) -> Result<ScanPart, SvfCause>
     ensures { Gives (λ p. p) result (part_value len (Some digits.now)) }
 {
     if len <= 64 {
@@ -182,7 +182,7 @@ fn digits_part(alloc: Global, len: u32, digits: &[u8]) -> Result<Part, SvfCause>
 
 /// The part of a hexadecimal text up to its `)`, or of digits alone, of which the last has position 0.
 #[inline(never)]
-pub(crate) fn text_part(alloc: Global, len: u32, text: &[u8]) -> Result<Part, SvfCause>
+pub(crate) fn text_part(alloc: Global, len: u32, text: &[u8]) -> Result<ScanPart, SvfCause>
     ensures { Gives (λ p. p) result (part_value len (Some (digits_of text.now))) }
 {
     if all_hex(text) {

@@ -20,15 +20,15 @@ use crate::so_far::ReadSoFar;
 use crate::words::{is_word, number};
 use ij_text::{CLOCK_LIMIT, SCAN_LIMIT, name_of};
 use std::alloc::Global;
-use svf_writer::{Command, Part, Scan};
+use svf_writer::{Command, Scan, ScanPart};
 
 #[inline(always)]
 #[tactic(auto, unfolding(crate::specs::Answers::part_value, crate::specs::Meaning::hex_value))]
-fn part_of(alloc: Global, len: u32, text: Option<&[u8]>) -> Result<Part, SvfCause>
+fn part_of(alloc: Global, len: u32, text: Option<&[u8]>) -> Result<ScanPart, SvfCause>
     ensures { Gives (λ p. p) result (part_value len (option_map (λ t. digits_of t.now) text.entry)) }
 {
     match text {
-        None => Ok(Part::absent()),
+        None => Ok(ScanPart::absent()),
         Some(text) => text_part(alloc, len, text),
     }
 }

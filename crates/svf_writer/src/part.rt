@@ -25,11 +25,11 @@ pub(crate) enum Stored {
 ///
 /// Contracts see an optional list of bits.
 #[derive(Drop)]
-pub struct Part {
+pub struct ScanPart {
     pub(crate) stored: Stored,
 }
 
-impl Model for Part {
+impl Model for ScanPart {
     ghost use Rattle.std.specs.Prelude.{Option, List, Bool};
     ghost use Rattle.svf_writer.specs.Stored.{bits_code, seen_part, IsStored};
 
@@ -54,33 +54,33 @@ fn bits_of_number(number: u64, from: u32, n: u32) -> u64
     (number >> from) & (u64::MAX >> (64 - n))
 }
 
-impl Part {
+impl ScanPart {
     /// A part that doesn't stand in the command. Takes no memory.
-    pub fn absent() -> Part
+    pub fn absent() -> ScanPart
         ensures { result ≡ None }
     {
-        Part {
+        ScanPart {
             stored: Stored::Absent,
         }
     }
 
     /// The lowest bits of a number, at most 64, of which no further ones are 1. Takes no memory.
-    pub fn of_number(count: u32, bits: u64) -> Part
+    pub fn of_number(count: u32, bits: u64) -> ScanPart
         requires word { count ≤ 64 }
         requires fits { bits < 2 ^ count }
         ensures { result ≡ Some (bits_of count bits) }
     {
-        Part {
+        ScanPart {
             stored: Stored::Word { count, bits },
         }
     }
 
     /// These bits; `OutOfMemory` where there is no memory for a list.
-    pub fn of_bits(alloc: Global, bits: Bits) -> Result<Part, OutOfMemory>
+    pub fn of_bits(alloc: Global, bits: Bits) -> Result<ScanPart, OutOfMemory>
         ensures { IfOk result (λ part. part ≡ Some bits.items) }
     {
         let list = Box::new(alloc, bits)?;
-        Ok(Part {
+        Ok(ScanPart {
             stored: Stored::List(list),
         })
     }
@@ -135,7 +135,7 @@ impl Part {
 }
 
 /// A part of a scan, lent where it is in the command. Takes no memory.
-pub fn lend(part: &Part) -> Option<&Part>
+pub fn lend(part: &ScanPart) -> Option<&ScanPart>
     ensures { lent result ≡ part.now }
 {
     if part.is_given() { Some(part) } else { None }

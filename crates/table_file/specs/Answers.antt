@@ -10,7 +10,7 @@ use Rattle.table_file.specs.declared.fault.TableFault.{TableFault}
 use Rattle.table_file.specs.declared.fault.TableFault.TheVariants.{TableSyntax, TableName, TableWidth}
 use Rattle.table_file.specs.declared.fault.TableFault.TheVariants.{TableLimit, TableTwice, OutOfMemory}
 use Rattle.table_file.specs.declared.blocks.Block.{Block as RustBlock}
-use Rattle.table_file.specs.declared.blocks.SoFar.{SoFar}
+use Rattle.table_file.specs.declared.blocks.ReadBlocks.{ReadBlocks}
 use Rattle.table_file.specs.declared.table.Table.{Table}
 use Rattle.table_file.specs.Small.{IsSmall}
 use Rattle.table_file.specs.Tables.{Block, Tables, SeenTable, seen_table, new_block}
@@ -37,7 +37,7 @@ seen_block b = record {
   model = seen_model b.model;
 }
 
-abbrev pub seen_so_far : SoFar → Tables
+abbrev pub seen_so_far : ReadBlocks → Tables
 seen_so_far s = record { tables = map seen_table s.tables.items; block = option_map seen_block s.block }
 
 abbrev pub seen_tables : Listed Table → List SeenTable
@@ -49,7 +49,7 @@ open_path None = []
 open_path (Some b) = (seen_block b).path ∷ []
 
 -- the paths of all blocks, and few lines in the block that isn't ended
-pub record IsSoFar (s : SoFar) : Type 0 where
+pub record IsSoFar (s : ReadBlocks) : Type 0 where
   pub listed : map (split 46) s.paths ≡ map (λ t. t.path) (map seen_table s.tables.items) ++ open_path s.block
   pub small : IfSome s.block (λ b. IsSmall (seen_model b.model))
 

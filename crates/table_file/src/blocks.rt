@@ -37,7 +37,7 @@ pub(crate) struct Block {
 
 /// What comes after some lines: the paths of all blocks, whole tables, and a block that isn't ended.
 #[derive(Drop)]
-pub(crate) struct SoFar {
+pub(crate) struct ReadBlocks {
     pub paths: Names,
     pub tables: List<Table>,
     pub block: Option<Block>,
@@ -191,7 +191,7 @@ fn put_block(tables: &mut List<Table>, b: Block) -> Result<Option<Block>, OutOfM
 /// The line that begins a block.
 fn first_line(
     alloc: Global,
-    so_far: &mut SoFar,
+    so_far: &mut ReadBlocks,
     at: Place,
     words: &[&[u8]],
 ) -> Result<(), TableFault>
@@ -213,7 +213,7 @@ fn first_line(
 fn more_lines(
     alloc: Global,
     second: bool,
-    so_far: &mut SoFar,
+    so_far: &mut ReadBlocks,
     block: Block,
     at: Place,
     words: &[&[u8]],
@@ -237,7 +237,7 @@ fn more_lines(
 pub(crate) fn next_line(
     alloc: Global,
     second: bool,
-    so_far: &mut SoFar,
+    so_far: &mut ReadBlocks,
     at: Place,
     words: &[&[u8]],
 ) -> Result<(), TableFault>

@@ -9,7 +9,7 @@ ghost use Rattle.table_file.specs.declared.fault.TableFault.{TableFault};
 ghost use Rattle.table_file.specs.Answers.{GivesTable, IsSoFar, seen_so_far, seen_tables};
 ghost use Rattle.table_file.specs.Tables.{tables, read_lines, next_line, from_head, no_tables, at_end};
 
-use crate::blocks::{SoFar, next_line as one_more_line};
+use crate::blocks::{ReadBlocks, next_line as one_more_line};
 use crate::fault::TableFault;
 use crate::table::Table;
 use ij_bits::List;
@@ -17,12 +17,12 @@ use ij_text::{Names, Place};
 use std::alloc::Global;
 use table_lines::{end_place, next_line, version, words};
 
-fn nothing(alloc: Global) -> SoFar
+fn nothing(alloc: Global) -> ReadBlocks
     ensures value { seen_so_far result ≡ no_tables }
     ensures paths { result.paths ≡ [] }
     ensures so_far { IsSoFar result }
 {
-    SoFar {
+    ReadBlocks {
         paths: Names::new(alloc),
         tables: List::new(alloc),
         block: None,
@@ -30,11 +30,11 @@ fn nothing(alloc: Global) -> SoFar
 }
 
 /// After the last line no block may be open.
-fn at_end(end: Place, so_far: SoFar) -> Result<List<Table>, TableFault>
+fn at_end(end: Place, so_far: ReadBlocks) -> Result<List<Table>, TableFault>
     ensures { GivesTable seen_tables result
         (at_end end (seen_so_far so_far).tables (seen_so_far so_far).block) }
 {
-    let SoFar {
+    let ReadBlocks {
         paths,
         tables,
         block,
@@ -53,7 +53,7 @@ fn at_end(end: Place, so_far: SoFar) -> Result<List<Table>, TableFault>
 fn one_line(
     alloc: Global,
     second: bool,
-    so_far: &mut SoFar,
+    so_far: &mut ReadBlocks,
     at: Place,
     text: &[u8],
 ) -> Result<(), TableFault>

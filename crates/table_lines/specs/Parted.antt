@@ -1,7 +1,7 @@
 -- The parts of a row as the reader goes over them.
 use Rattle.std.specs.Prelude.{ℕ, suc, Bool, cond, List, [], ◌∷◌, ◌++◌, length, Option, Some, None, codes}
 use Rattle.std.proofs.Common.{Bor}
-use Rattle.table_lines.specs.declared.parts.Part.{Part}
+use Rattle.table_lines.specs.declared.parts.LinePart.{LinePart}
 use Rattle.table_lines.specs.Reading.{texts}
 use Rattle.table_lines.specs.Said.{Words, is, parts, sets, row_of, SaidCond, SaidRow}
 
@@ -15,7 +15,7 @@ after_parts None = []
 after_parts (Some rest) = parts (texts rest.now)
 
 -- a part and those after it
-abbrev pub part_list : Part → List Words
+abbrev pub part_list : LinePart → List Words
 part_list p = texts p.front.now ∷ after_parts p.after
 
 -- a row with some conditions more before

@@ -8,7 +8,7 @@ use crate::word::is;
 
 /// Words up to a comma, and those after it, where there is one.
 #[derive(Clone, Copy)]
-pub(crate) struct Part<'w, 'a> {
+pub(crate) struct LinePart<'w, 'a> {
     pub front: &'w [&'a [u8]],
     pub after: Option<&'w [&'a [u8]]>,
 }
@@ -29,16 +29,16 @@ fn part_len(words: &[&[u8]]) -> usize
 }
 
 /// The first part of a row.
-pub(crate) fn next_part<'w, 'a>(words: &'w [&'a [u8]]) -> Part<'w, 'a>
+pub(crate) fn next_part<'w, 'a>(words: &'w [&'a [u8]]) -> LinePart<'w, 'a>
     ensures parts { part_list result ≡ parts (texts words.now) }
     ensures shorter { IfSome result.after (λ rest. length rest.now < length words.now) }
 {
     let (front, after) = words.split_at(part_len(words));
     if after.is_empty() {
-        return Part { front, after: None };
+        return LinePart { front, after: None };
     }
     let (_, rest) = after.split_at(1);
-    Part {
+    LinePart {
         front,
         after: Some(rest),
     }

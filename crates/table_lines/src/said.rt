@@ -17,7 +17,7 @@ ghost use Rattle.table_lines.specs.SeenSaid.{seen_front, seen_bracketed, seen_en
 ghost use Rattle.table_lines.specs.SeenSaid.{seen_cond, seen_set, seen_row, seen_starts, seen_slice};
 
 use crate::bytes::cut_at;
-use crate::parts::{Part, next_part};
+use crate::parts::{LinePart, next_part};
 use crate::word::{decimal, is, number, plain};
 use ij_bits::OutOfMemory;
 use ij_text::{Number, is_name};
@@ -374,7 +374,7 @@ pub(crate) fn starts(alloc: Global, words: &[&[u8]]) -> Result<Option<StartNumbe
 fn sets<'w, 'a>(
     alloc: Global,
     second: bool,
-    first: Part<'w, 'a>,
+    first: LinePart<'w, 'a>,
 ) -> Result<Option<Vec<SaidSet<'a>>>, OutOfMemory>
     ensures { IfOk result (λ o. option_map (λ xs. map seen_set xs.items) o
         ≡ sets second (part_list first.entry)) }
@@ -525,7 +525,7 @@ fn row_with<'w, 'a>(
     alloc: Global,
     second: bool,
     conds: Vec<SaidCond<'a>>,
-    first: Part<'w, 'a>,
+    first: LinePart<'w, 'a>,
 ) -> Result<Option<SaidRow<'a>>, OutOfMemory>
     ensures { IfOk result (λ o. option_map seen_row o
         ≡ with_conds (map seen_cond conds.entry.items) (row_of (sets second (part_list first.entry)))) }
@@ -550,7 +550,7 @@ fn do_sets<'w, 'a>(
     match words {
         [w, front @ ..] => {
             if is(w, b"do") {
-                return row_with(alloc, second, conds, Part { front, after });
+                return row_with(alloc, second, conds, LinePart { front, after });
             }
             Ok(None)
         }
@@ -563,7 +563,7 @@ fn conds_sets<'w, 'a>(
     alloc: Global,
     second: bool,
     change: bool,
-    first: Part<'w, 'a>,
+    first: LinePart<'w, 'a>,
 ) -> Result<Option<SaidRow<'a>>, OutOfMemory>
     ensures { IfOk result (λ o. option_map seen_row o ≡ conds_sets second change (part_list first.entry)) }
 {

@@ -14,15 +14,15 @@ ghost use Rattle.tap_machine.specs.Play.{no_shift, after_scan, masked};
 ghost use Rattle.tap_machine.specs.Pieces.{piece_pins};
 
 use crate::{Piece, Pins, Stable};
-use svf_writer::{Command, Commands, Part, Scan, lend};
+use svf_writer::{Command, Commands, Scan, ScanPart, lend};
 
 /// The length of the last scan of a kind, and the bits of the commands that it took its TDI and MASK from.
 /// Without MASK each bit is compared.
 #[derive(Clone, Copy)]
 pub(crate) struct HeldBits<'a> {
     pub len: u32,
-    pub tdi: Option<&'a Part>,
-    pub mask: Option<&'a Part>,
+    pub tdi: Option<&'a ScanPart>,
+    pub mask: Option<&'a ScanPart>,
 }
 
 /// What is left of the command at hand.
@@ -57,7 +57,7 @@ pub(crate) struct Progress<'a> {
     pub scans: u32,
     pub phase: Phase,
     pub scan: HeldBits<'a>,
-    pub tdo: Option<&'a Part>,
+    pub tdo: Option<&'a ScanPart>,
     pub ir: HeldBits<'a>,
     pub dr: HeldBits<'a>,
 }
@@ -231,7 +231,7 @@ impl<'a> Progress<'a> {
     }
 
     /// Makes this the scan at hand.
-    fn begin_scan(&mut self, phase: Phase, scan: HeldBits<'a>, tdo: &'a Part)
+    fn begin_scan(&mut self, phase: Phase, scan: HeldBits<'a>, tdo: &'a ScanPart)
         requires more { self.old.at + 1 < 2 ^ 64 }
         requires few { self.old.scans + 1 < 2 ^ 32 }
         ensures tdo { lent self.new.tdo ≡ tdo.now }
@@ -344,7 +344,7 @@ impl<'a> Progress<'a> {
 
     /// The `n` bits of a part of the scan at hand from a position on; without the part, each of them is the
     /// given one.
-    fn part_bits(&self, part: Option<&Part>, k: u32, n: u32, value: bool) -> u64
+    fn part_bits(&self, part: Option<&ScanPart>, k: u32, n: u32, value: bool) -> u64
         requires some { 1 ≤ n }
         requires few { n ≤ 64 }
         requires within { k + n ≤ self.now.scan.len }

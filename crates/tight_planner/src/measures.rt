@@ -2,10 +2,10 @@
 
 use crate::access::{at, copy_at, put_at};
 use crate::segments::{MuxInfo, Segment, Segments, row_segment};
-use crate::stop::Stop;
+use crate::stop::PlanStop;
 
 /// Finds the fewest bits of each segment and the rest row of each mux, the innermost ones first.
-pub(crate) fn measured(all: &mut Segments) -> Result<(), Stop> {
+pub(crate) fn measured(all: &mut Segments) -> Result<(), PlanStop> {
     for s in 0..all.segments.len() {
         let mut segment = copy_at(&all.segments, s)?;
         segment.least = segment.width;
@@ -19,7 +19,7 @@ pub(crate) fn measured(all: &mut Segments) -> Result<(), Stop> {
 }
 
 /// Measures the muxes that are in this many rows.
-fn measure_depth(all: &mut Segments, depth: usize) -> Result<(), Stop> {
+fn measure_depth(all: &mut Segments, depth: usize) -> Result<(), PlanStop> {
     for m in 0..all.muxes.len() {
         let info = copy_at(&all.muxes, m)?;
         if at(&all.segments, info.home)?.depth == depth {
@@ -30,7 +30,7 @@ fn measure_depth(all: &mut Segments, depth: usize) -> Result<(), Stop> {
 }
 
 /// The row of a mux with the fewest bits; the row at reset first, then the first ones.
-fn smallest_row(all: &Segments, m: usize, info: MuxInfo) -> Result<usize, Stop> {
+fn smallest_row(all: &Segments, m: usize, info: MuxInfo) -> Result<usize, PlanStop> {
     let mut best = info.reset_row;
     let mut least = at(&all.segments, row_segment(&all.muxes, m, best)?)?.least;
     for row in 0..info.rows {
@@ -44,7 +44,7 @@ fn smallest_row(all: &Segments, m: usize, info: MuxInfo) -> Result<usize, Stop> 
 }
 
 /// Measures a mux whose rows are measured, and adds its bits to the segment that it is in.
-fn measure_mux(all: &mut Segments, m: usize, found: MuxInfo) -> Result<(), Stop> {
+fn measure_mux(all: &mut Segments, m: usize, found: MuxInfo) -> Result<(), PlanStop> {
     let mut info = found;
     info.rest_row = smallest_row(all, m, info)?;
     put_at(&mut all.muxes, m, info)?;

@@ -2,7 +2,7 @@
 
 use crate::access::{at, bit_at, copy_at, put_bit};
 use crate::how::How;
-use crate::stop::Stop;
+use crate::stop::PlanStop;
 use ij_bits::Bits;
 use net_graph::Group;
 use std::alloc::Global;
@@ -17,7 +17,7 @@ pub(crate) struct Needs {
 }
 
 /// Adds a segment, unless it was the last one that was added.
-fn add_segment(list: &mut Vec<usize>, segment: usize) -> Result<(), Stop> {
+fn add_segment(list: &mut Vec<usize>, segment: usize) -> Result<(), PlanStop> {
     if list.last().copied() != Some(segment) {
         list.push(segment)?;
     }
@@ -25,7 +25,7 @@ fn add_segment(list: &mut Vec<usize>, segment: usize) -> Result<(), Stop> {
 }
 
 /// The segments in order, each once.
-fn each_once(alloc: Global, list: Vec<usize>) -> Result<Vec<usize>, Stop> {
+fn each_once(alloc: Global, list: Vec<usize>) -> Result<Vec<usize>, PlanStop> {
     let mut sorted = list;
     sorted.sort()?;
     let mut once = Vec::new(alloc);
@@ -42,7 +42,7 @@ pub(crate) fn needs_of(
     group: &Group,
     meant: &[Bits],
     how: How,
-) -> Result<Needs, Stop> {
+) -> Result<Needs, PlanStop> {
     let mut ends = Vec::new(alloc);
     let mut kept = Vec::new(alloc);
     for write in group.writes.as_slice() {
@@ -65,11 +65,11 @@ pub(crate) fn needs_of(
 }
 
 /// Gives the data bits the values that a round writes.
-pub(crate) fn do_writes(meant: &mut [Bits], group: &Group) -> Result<(), Stop> {
+pub(crate) fn do_writes(meant: &mut [Bits], group: &Group) -> Result<(), PlanStop> {
     for write in group.writes.as_slice() {
         let reg = write.bit.reg as usize;
         if reg >= meant.len() {
-            return Err(Stop::NoPlan);
+            return Err(PlanStop::NoPlan);
         }
         put_bit(&mut meant[reg], write.bit.pos, write.value)?;
     }

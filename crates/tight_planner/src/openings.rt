@@ -2,7 +2,7 @@
 
 use crate::access::{at, copy_at, put_at};
 use crate::segments::Segments;
-use crate::stop::Stop;
+use crate::stop::PlanStop;
 use crate::stretch::{Stretch, Want};
 use std::alloc::Global;
 
@@ -23,7 +23,7 @@ struct Opening {
 
 /// The cheapest scans of one level.
 #[derive(Drop)]
-struct Level {
+struct OpeningLevel {
     /// For each scan, the cost of having this level and those before it on the path by then.
     best: Vec<u64>,
     /// And the scan of the level before.
@@ -32,7 +32,7 @@ struct Level {
 
 /// How many of these segments must be on the path so that all of them can be; `None` where reset selects
 /// them.
-fn level_before(all: &Segments, chain: &[usize], count: usize) -> Result<Option<usize>, Stop> {
+fn level_before(all: &Segments, chain: &[usize], count: usize) -> Result<Option<usize>, PlanStop> {
     let mut deepest = None;
     for s in chain.iter().take(count) {
         let it = copy_at(&all.segments, *s)?;
@@ -45,7 +45,7 @@ fn level_before(all: &Segments, chain: &[usize], count: usize) -> Result<Option<
 }
 
 /// The levels of a chain, the first to be on the path first.
-fn levels_of(alloc: Global, all: &Segments, chain: &[usize]) -> Result<Vec<usize>, Stop> {
+fn levels_of(alloc: Global, all: &Segments, chain: &[usize]) -> Result<Vec<usize>, PlanStop> {
     let mut levels = Vec::new(alloc);
     let mut count = chain.len();
     for _ in 0..17 {
@@ -60,12 +60,16 @@ fn levels_of(alloc: Global, all: &Segments, chain: &[usize]) -> Result<Vec<usize
             }
         }
     }
-    Err(Stop::NoPlan)
+    Err(PlanStop::NoPlan)
 }
 
 /// The next level, where these are the costs of the level before and those of having this one on the path.
-fn next_level(alloc: Global, before: Option<&[u64]>, costs: &[u64]) -> Result<Level, Stop> {
-    let mut level = Level {
+fn next_level(
+    alloc: Global,
+    before: Option<&[u64]>,
+    costs: &[u64],
+) -> Result<OpeningLevel, PlanStop> {
+    let mut level = OpeningLevel {
         best: Vec::new(alloc),
         from: Vec::new(alloc),
     };
@@ -86,7 +90,7 @@ fn next_level(alloc: Global, before: Option<&[u64]>, costs: &[u64]) -> Result<Le
 }
 
 /// The first scan of the least cost.
-fn cheapest(costs: &[u64]) -> Result<usize, Stop> {
+fn cheapest(costs: &[u64]) -> Result<usize, PlanStop> {
     let mut best = FAR;
     let mut scan = 0;
     for t in 0..costs.len() {
@@ -96,13 +100,13 @@ fn cheapest(costs: &[u64]) -> Result<usize, Stop> {
         }
     }
     if best == FAR {
-        return Err(Stop::NoPlan);
+        return Err(PlanStop::NoPlan);
     }
     Ok(scan)
 }
 
 /// The scan of each level, the first level first, where this is the scan of the last one.
-fn traced(alloc: Global, levels: &[Level], last: usize) -> Result<Vec<usize>, Stop> {
+fn traced(alloc: Global, levels: &[OpeningLevel], last: usize) -> Result<Vec<usize>, PlanStop> {
     let mut scans = Vec::new(alloc);
     let mut scan = last;
     for i in (0..levels.len()).rev() {
@@ -123,7 +127,7 @@ pub(crate) fn row_wanted(list: &[Want], next: usize, scan: usize) -> Option<usiz
 
 impl Stretch {
     /// Sees to it that each of these segments can be on the path of the next scan.
-    pub fn prepare_all(&mut self, all: &Segments, ends: &[usize]) -> Result<(), Stop> {
+    pub fn prepare_all(&mut self, all: &Segments, ends: &[usize]) -> Result<(), PlanStop> {
         let mut openings = Vec::new(self.alloc);
         for end in ends {
             if !copy_at(&self.opened, *end)? {
@@ -143,7 +147,7 @@ impl Stretch {
     }
 
     /// Whether this many segments of a chain are on the path of some scan.
-    fn is_opened(&self, chain: &[usize], count: usize) -> Result<bool, Stop> {
+    fn is_opened(&self, chain: &[usize], count: usize) -> Result<bool, PlanStop> {
         if self.scans.is_empty() {
             return Ok(false);
         }
@@ -154,7 +158,7 @@ impl Stretch {
     }
 
     /// Sees to it that a segment can be on the path of the next scan.
-    fn prepare(&mut self, all: &Segments, opening: &Opening) -> Result<(), Stop> {
+    fn prepare(&mut self, all: &Segments, opening: &Opening) -> Result<(), PlanStop> {
         let Some(deepest) = opening.levels.last().copied() else {
             return Ok(());
         };
@@ -162,7 +166,7 @@ impl Stretch {
             return Ok(());
         }
         let scans = self.opening_scans(all, opening)?;
-        let last = scans.last().copied().ok_or(Stop::NoPlan)?;
+        let last = scans.last().copied().ok_or(PlanStop::NoPlan)?;
         for _ in 0..opening.levels.len() {
             if last >= self.scans.len() {
                 self.add_scan(all, None)?;
@@ -177,11 +181,11 @@ impl Stretch {
     }
 
     /// The cheapest scan for each level: one that is there already, or a new one after them.
-    fn opening_scans(&self, all: &Segments, opening: &Opening) -> Result<Vec<usize>, Stop> {
+    fn opening_scans(&self, all: &Segments, opening: &Opening) -> Result<Vec<usize>, PlanStop> {
         let more = opening.levels.len();
-        let total = self.scans.len().checked_add(more).ok_or(Stop::NoPlan)?;
+        let total = self.scans.len().checked_add(more).ok_or(PlanStop::NoPlan)?;
         let mut costs = vec![in self.alloc; 0; total]?;
-        let mut levels: Vec<Level> = Vec::new(self.alloc);
+        let mut levels: Vec<OpeningLevel> = Vec::new(self.alloc);
         let mut counted = 0;
         for count in &opening.levels {
             for i in counted..*count {
@@ -192,13 +196,13 @@ impl Stretch {
             let level = next_level(self.alloc, before, &costs)?;
             levels.push(level)?;
         }
-        let best = at(&levels, more.checked_sub(1).ok_or(Stop::NoPlan)?)?;
+        let best = at(&levels, more.checked_sub(1).ok_or(PlanStop::NoPlan)?)?;
         let ends = self.with_new_scans(all, &best.best)?;
         traced(self.alloc, &levels, cheapest(&ends)?)
     }
 
     /// Costs with those of the scans that aren't there yet.
-    fn with_new_scans(&self, all: &Segments, costs: &[u64]) -> Result<Vec<u64>, Stop> {
+    fn with_new_scans(&self, all: &Segments, costs: &[u64]) -> Result<Vec<u64>, PlanStop> {
         let scan_cost = at(&all.segments, 0)?.least.saturating_add(SCAN_CLOCKS);
         let mut sums = Vec::new(self.alloc);
         let mut new_scans: u64 = 0;
@@ -213,7 +217,7 @@ impl Stretch {
 
     /// Adds the bits that a segment costs at each scan, where those around it are on the path. The first scan
     /// has the path at reset.
-    fn add_costs(&self, all: &Segments, segment: usize, costs: &mut [u64]) -> Result<(), Stop> {
+    fn add_costs(&self, all: &Segments, segment: usize, costs: &mut [u64]) -> Result<(), PlanStop> {
         let it = copy_at(&all.segments, segment)?;
         let extra = all.extra(segment)?;
         let is_reset = at(&all.muxes, it.mux)?.reset_row == it.row;

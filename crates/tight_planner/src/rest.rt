@@ -2,7 +2,7 @@
 
 use crate::access::{at, copy_at, put_at};
 use crate::segments::{MuxInfo, Segments, row_segment};
-use crate::stop::Stop;
+use crate::stop::PlanStop;
 use crate::stretch::{Stretch, Want};
 use crate::visits::{Visits, early_scan};
 
@@ -34,7 +34,7 @@ pub(crate) fn rest_row(
     visits: &mut Visits,
     m: usize,
     scan: usize,
-) -> Result<usize, Stop> {
+) -> Result<usize, PlanStop> {
     let info = copy_at(&all.muxes, m)?;
     let rest = row_segment(&all.muxes, m, info.rest_row)?;
     let smallest = copy_at(&all.segments, rest)?;
@@ -60,7 +60,7 @@ pub(crate) fn rest_row(
 }
 
 /// The bits of a segment in this many scans.
-fn cost_of(all: &Segments, visits: &Visits, segment: usize, times: u64) -> Result<u64, Stop> {
+fn cost_of(all: &Segments, visits: &Visits, segment: usize, times: u64) -> Result<u64, PlanStop> {
     let it = copy_at(&all.segments, segment)?;
     let first = if copy_at(&visits.last, segment)?.is_some() {
         it.least
@@ -78,7 +78,7 @@ pub(crate) fn early_rest(
     visits: &Visits,
     m: usize,
     info: MuxInfo,
-) -> Result<usize, Stop> {
+) -> Result<usize, PlanStop> {
     let mut best = copy_at(&visits.now, m)?;
     let mut least = at(&all.segments, row_segment(&all.muxes, m, best)?)?.fresh;
     for row in 0..info.rows {

@@ -2,7 +2,7 @@
 
 use crate::access::{at, bit_at, copy_at};
 use crate::segments::{OUTER, Segment};
-use crate::stop::Stop;
+use crate::stop::PlanStop;
 use ij_bits::{Bits, Tern};
 use net_graph::{BitId, Mux, Net, Row};
 use std::alloc::Global;
@@ -27,7 +27,7 @@ struct Opening {
 }
 
 /// The select bits of a mux at reset.
-pub(crate) fn reset_select(alloc: Global, net: &Net, select: &[BitId]) -> Result<Bits, Stop> {
+pub(crate) fn reset_select(alloc: Global, net: &Net, select: &[BitId]) -> Result<Bits, PlanStop> {
     let mut bits = Bits::zeros(alloc, 0)?;
     for bit in select {
         let reg = at(net.regs.as_slice(), bit.reg as usize)?;
@@ -37,18 +37,18 @@ pub(crate) fn reset_select(alloc: Global, net: &Net, select: &[BitId]) -> Result
 }
 
 /// Adds a bit.
-fn push_bit(bits: &mut Bits, value: bool) -> Result<(), Stop> {
+fn push_bit(bits: &mut Bits, value: bool) -> Result<(), PlanStop> {
     if bits.len() == u32::MAX {
-        return Err(Stop::NoPlan);
+        return Err(PlanStop::NoPlan);
     }
     bits.push(value)?;
     Ok(())
 }
 
 /// A digit of a select value; `None` for x.
-fn digit(value: &Tern, i: u32) -> Result<Option<bool>, Stop> {
+fn digit(value: &Tern, i: u32) -> Result<Option<bool>, PlanStop> {
     if i >= value.len() {
-        return Err(Stop::NoPlan);
+        return Err(PlanStop::NoPlan);
     }
     Ok(value.get(i))
 }
@@ -58,7 +58,7 @@ pub(crate) fn deepest_select(
     segments: &[Segment],
     of_reg: &[usize],
     select: &[BitId],
-) -> Result<usize, Stop> {
+) -> Result<usize, PlanStop> {
     let mut deepest = OUTER;
     for bit in select {
         let s = copy_at(of_reg, bit.reg as usize)?;
@@ -70,7 +70,7 @@ pub(crate) fn deepest_select(
 }
 
 /// Whether a select value lists these bits.
-fn lists(value: &Tern, bits: &Bits) -> Result<bool, Stop> {
+fn lists(value: &Tern, bits: &Bits) -> Result<bool, PlanStop> {
     for i in 0..bits.len() {
         let bit = bits.get(i);
         if digit(value, i)?.unwrap_or(bit) != bit {
@@ -81,7 +81,7 @@ fn lists(value: &Tern, bits: &Bits) -> Result<bool, Stop> {
 }
 
 /// Whether a row lists these bits.
-fn row_lists(row: &Row, bits: &Bits) -> Result<bool, Stop> {
+fn row_lists(row: &Row, bits: &Bits) -> Result<bool, PlanStop> {
     for value in row.values.as_slice() {
         if lists(value, bits)? {
             return Ok(true);
@@ -91,7 +91,7 @@ fn row_lists(row: &Row, bits: &Bits) -> Result<bool, Stop> {
 }
 
 /// The row of a mux at reset.
-pub(crate) fn reset_row_of(mux: &Mux, at_reset: &Bits) -> Result<usize, Stop> {
+pub(crate) fn reset_row_of(mux: &Mux, at_reset: &Bits) -> Result<usize, PlanStop> {
     let mut number: usize = 0;
     for row in mux.rows.as_slice() {
         if row_lists(row, at_reset)? {
@@ -99,11 +99,11 @@ pub(crate) fn reset_row_of(mux: &Mux, at_reset: &Bits) -> Result<usize, Stop> {
         }
         number = number.saturating_add(1);
     }
-    Err(Stop::NoPlan)
+    Err(PlanStop::NoPlan)
 }
 
 /// A select value with 0 for each x.
-fn plain_value(alloc: Global, value: &Tern) -> Result<Bits, Stop> {
+fn plain_value(alloc: Global, value: &Tern) -> Result<Bits, PlanStop> {
     let mut bits = Bits::zeros(alloc, 0)?;
     for i in 0..value.len() {
         push_bit(&mut bits, value.get(i).unwrap_or(false))?;
@@ -119,7 +119,7 @@ fn opening_by(
     value: &Tern,
     select: &[BitId],
     at_reset: &Bits,
-) -> Result<Opening, Stop> {
+) -> Result<Opening, PlanStop> {
     let mut opening = Opening {
         value: Bits::zeros(alloc, 0)?,
         from: OUTER,
@@ -147,7 +147,7 @@ pub(crate) fn row_info(
     row: &Row,
     select: &[BitId],
     at_reset: &Bits,
-) -> Result<RowInfo, Stop> {
+) -> Result<RowInfo, PlanStop> {
     let values = row.values.as_slice();
     let mut first = opening_by(alloc, segments, of_reg, at(values, 0)?, select, at_reset)?;
     for value in values {

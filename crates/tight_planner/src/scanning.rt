@@ -3,7 +3,7 @@
 use crate::access::at;
 use crate::chip::Chip;
 use crate::segments::Segments;
-use crate::stop::Stop;
+use crate::stop::PlanStop;
 use crate::stretch::{Item, Round, Stretch};
 use ij_bits::Bits;
 use ij_io::{Sink, SureSink, Word, put_words};
@@ -11,7 +11,7 @@ use net_graph::{Net, ReadBit};
 use svf_writer::{put_list, put_mark, put_round};
 
 /// Writes the comment before a round.
-fn put_front(round: &Round, text: &mut SureSink) -> Result<(), Stop> {
+fn put_front(round: &Round, text: &mut SureSink) -> Result<(), PlanStop> {
     if round.round < 2 {
         put_mark(round.apply, text)?;
     } else {
@@ -21,7 +21,7 @@ fn put_front(round: &Round, text: &mut SureSink) -> Result<(), Stop> {
 }
 
 /// Writes a run.
-fn put_cycles(cycles: u32, text: &mut SureSink) -> Result<(), Stop> {
+fn put_cycles(cycles: u32, text: &mut SureSink) -> Result<(), PlanStop> {
     let words = [
         Word::Text(b"RUNTEST "),
         Word::Number(cycles as u64),
@@ -32,14 +32,14 @@ fn put_cycles(cycles: u32, text: &mut SureSink) -> Result<(), Stop> {
 }
 
 /// Writes the beginning of a scan, with what is shifted in.
-fn put_shifted(tdi: &Bits, text: &mut SureSink) -> Result<(), Stop> {
+fn put_shifted(tdi: &Bits, text: &mut SureSink) -> Result<(), PlanStop> {
     put_words(text, &[Word::Text(b"SDR "), Word::Number(tdi.len() as u64)])?;
     put_list(b" TDI (", tdi, text)?;
     Ok(())
 }
 
 /// Writes what is expected of a scan, if anything is read.
-fn put_compared(chip: &Chip, reads: &[ReadBit], text: &mut SureSink) -> Result<(), Stop> {
+fn put_compared(chip: &Chip, reads: &[ReadBit], text: &mut SureSink) -> Result<(), PlanStop> {
     if reads.is_empty() {
         return Ok(());
     }
@@ -54,7 +54,7 @@ fn put_compared(chip: &Chip, reads: &[ReadBit], text: &mut SureSink) -> Result<(
 }
 
 /// Writes the scan that is being made. It does this round, if any.
-fn put_scan(chip: &mut Chip, round: Option<&Round>, text: &mut SureSink) -> Result<(), Stop> {
+fn put_scan(chip: &mut Chip, round: Option<&Round>, text: &mut SureSink) -> Result<(), PlanStop> {
     if let Some(done) = round {
         put_front(done, text)?;
         for write in done.group.writes.as_slice() {
@@ -77,7 +77,7 @@ impl Stretch {
         all: &Segments,
         chip: &mut Chip,
         text: &mut SureSink,
-    ) -> Result<(), Stop> {
+    ) -> Result<(), PlanStop> {
         for item in &self.items {
             match item {
                 Item::Run(cycles) => put_cycles(*cycles, text)?,
@@ -96,7 +96,7 @@ impl Stretch {
         number: usize,
         chip: &mut Chip,
         text: &mut SureSink,
-    ) -> Result<(), Stop> {
+    ) -> Result<(), PlanStop> {
         let scan = at(&self.scans, number)?;
         chip.begin_scan(net)?;
         for set in &scan.sets {

@@ -4,7 +4,7 @@
 use crate::access::{at, copy_at, push_at, put_at};
 use crate::measures::measured;
 use crate::rows::{RowInfo, deepest_select, reset_row_of, reset_select, row_info};
-use crate::stop::Stop;
+use crate::stop::PlanStop;
 use ij_bits::Bits;
 use net_graph::{Branch, Mux, Net};
 use net_tree::Tree;
@@ -67,16 +67,16 @@ pub(crate) struct Segments {
 }
 
 /// The segment of a row.
-pub(crate) fn row_segment(muxes: &[MuxInfo], mux: usize, row: usize) -> Result<usize, Stop> {
+pub(crate) fn row_segment(muxes: &[MuxInfo], mux: usize, row: usize) -> Result<usize, PlanStop> {
     let info = at(muxes, mux)?;
     if row >= info.rows {
-        return Err(Stop::NoPlan);
+        return Err(PlanStop::NoPlan);
     }
-    info.first.checked_add(row).ok_or(Stop::NoPlan)
+    info.first.checked_add(row).ok_or(PlanStop::NoPlan)
 }
 
 /// The innermost segment of these rows.
-fn innermost(muxes: &[MuxInfo], place: &[Branch]) -> Result<usize, Stop> {
+fn innermost(muxes: &[MuxInfo], place: &[Branch]) -> Result<usize, PlanStop> {
     match place.last() {
         None => Ok(OUTER),
         Some(branch) => row_segment(muxes, branch.mux as usize, branch.row as usize),
@@ -84,7 +84,7 @@ fn innermost(muxes: &[MuxInfo], place: &[Branch]) -> Result<usize, Stop> {
 }
 
 /// The muxes, with the numbers of their rows' segments alone.
-fn numbered(alloc: Global, net: &Net) -> Result<Vec<MuxInfo>, Stop> {
+fn numbered(alloc: Global, net: &Net) -> Result<Vec<MuxInfo>, PlanStop> {
     let mut muxes = Vec::new(alloc);
     let mut next: usize = 1;
     for mux in net.muxes.as_slice() {
@@ -97,14 +97,14 @@ fn numbered(alloc: Global, net: &Net) -> Result<Vec<MuxInfo>, Stop> {
             reset_row: 0,
             rest_row: 0,
         })?;
-        next = next.checked_add(rows).ok_or(Stop::NoPlan)?;
+        next = next.checked_add(rows).ok_or(PlanStop::NoPlan)?;
     }
     Ok(muxes)
 }
 
 impl Segments {
     /// The segments of a network with its nested form.
-    pub fn of(alloc: Global, net: &Net, tree: &Tree) -> Result<Segments, Stop> {
+    pub fn of(alloc: Global, net: &Net, tree: &Tree) -> Result<Segments, PlanStop> {
         let mut all = Segments {
             segments: Vec::new(alloc),
             rows: Vec::new(alloc),
@@ -128,7 +128,7 @@ impl Segments {
         row: usize,
         up: usize,
         depth: usize,
-    ) -> Result<(), Stop> {
+    ) -> Result<(), PlanStop> {
         self.segments.push(Segment {
             mux,
             row,
@@ -143,10 +143,10 @@ impl Segments {
     }
 
     /// Adds the outer list and each mux's rows.
-    fn add_segments(&mut self, alloc: Global, net: &Net, tree: &Tree) -> Result<(), Stop> {
+    fn add_segments(&mut self, alloc: Global, net: &Net, tree: &Tree) -> Result<(), PlanStop> {
         self.push(alloc, 0, 0, OUTER, 0)?;
         for m in 0..net.muxes.len() {
-            let place = tree.place_of_mux(u32::try_from(m).map_err(|_| Stop::NoPlan)?);
+            let place = tree.place_of_mux(u32::try_from(m).map_err(|_| PlanStop::NoPlan)?);
             let up = innermost(&self.muxes, place.as_slice())?;
             let depth = place.len().saturating_add(1);
             let mut info = copy_at(&self.muxes, m)?;
@@ -164,7 +164,7 @@ impl Segments {
     }
 
     /// Finds the segment of each register, and counts the registers' bits.
-    fn add_registers(&mut self, net: &Net, tree: &Tree) -> Result<(), Stop> {
+    fn add_registers(&mut self, net: &Net, tree: &Tree) -> Result<(), PlanStop> {
         let mut number: u32 = 0;
         for reg in net.regs.as_slice() {
             let place = tree.place_of(number);
@@ -173,13 +173,13 @@ impl Segments {
             segment.width = segment.width.saturating_add(u64::from(reg.width));
             put_at(&mut self.segments, s, segment)?;
             self.of_reg.push(s)?;
-            number = number.checked_add(1).ok_or(Stop::NoPlan)?;
+            number = number.checked_add(1).ok_or(PlanStop::NoPlan)?;
         }
         Ok(())
     }
 
     /// Finds how each row is selected.
-    fn add_selects(&mut self, alloc: Global, net: &Net) -> Result<(), Stop> {
+    fn add_selects(&mut self, alloc: Global, net: &Net) -> Result<(), PlanStop> {
         self.rows.push(RowInfo {
             value: Bits::zeros(alloc, 0)?,
             first_value: Bits::zeros(alloc, 0)?,
@@ -192,7 +192,13 @@ impl Segments {
     }
 
     /// Finds how each row of a mux is selected.
-    fn add_select(&mut self, alloc: Global, net: &Net, m: usize, mux: &Mux) -> Result<(), Stop> {
+    fn add_select(
+        &mut self,
+        alloc: Global,
+        net: &Net,
+        m: usize,
+        mux: &Mux,
+    ) -> Result<(), PlanStop> {
         let select = mux.select.as_slice();
         let at_reset = reset_select(alloc, net, select)?;
         let mut info = copy_at(&self.muxes, m)?;
@@ -207,7 +213,7 @@ impl Segments {
     }
 
     /// The segments around and with this one, outermost first, without the outer list.
-    pub fn chain(&self, alloc: Global, segment: usize) -> Result<Vec<usize>, Stop> {
+    pub fn chain(&self, alloc: Global, segment: usize) -> Result<Vec<usize>, PlanStop> {
         let mut chain = Vec::new(alloc);
         let mut s = segment;
         for _ in 0..17 {
@@ -218,11 +224,11 @@ impl Segments {
             chain.push(s)?;
             s = at(&self.segments, s)?.up;
         }
-        Err(Stop::NoPlan)
+        Err(PlanStop::NoPlan)
     }
 
     /// What a row costs above the one of its mux that has the fewest bits, in bits of a scan.
-    pub fn extra(&self, segment: usize) -> Result<u64, Stop> {
+    pub fn extra(&self, segment: usize) -> Result<u64, PlanStop> {
         let row = at(&self.segments, segment)?;
         let info = at(&self.muxes, row.mux)?;
         let rest = row_segment(&self.muxes, row.mux, info.rest_row)?;

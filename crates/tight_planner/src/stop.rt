@@ -6,34 +6,34 @@ use std::alloc::{AllocError, AllocFailed};
 
 /// Why planning ends early.
 #[derive(Clone, Copy, Debug, PartialEq, Eq)]
-pub(crate) enum Stop {
+pub(crate) enum PlanStop {
     /// The planner finds no plan for such a network or procedure.
     NoPlan,
     /// There was no memory.
     NoMemory,
 }
 
-impl From<OutOfMemory> for Stop {
+impl From<OutOfMemory> for PlanStop {
     fn from(_: OutOfMemory) -> Self {
-        Stop::NoMemory
+        PlanStop::NoMemory
     }
 }
 
-impl From<AllocError> for Stop {
+impl From<AllocError> for PlanStop {
     fn from(_: AllocError) -> Self {
-        Stop::NoMemory
+        PlanStop::NoMemory
     }
 }
 
-impl<T: Drop> From<AllocFailed<T>> for Stop {
+impl<T: Drop> From<AllocFailed<T>> for PlanStop {
     fn from(_: AllocFailed<T>) -> Self {
-        Stop::NoMemory
+        PlanStop::NoMemory
     }
 }
 
 /// The text is written to a sink in memory, which never fails.
-impl From<StoreFault> for Stop {
+impl From<StoreFault> for PlanStop {
     fn from(_: StoreFault) -> Self {
-        Stop::NoMemory
+        PlanStop::NoMemory
     }
 }

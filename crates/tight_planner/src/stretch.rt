@@ -3,7 +3,7 @@
 use crate::access::{at, copy_at, put_at};
 use crate::needs::Needs;
 use crate::segments::{OUTER, Segments, row_segment};
-use crate::stop::Stop;
+use crate::stop::PlanStop;
 use net_graph::Group;
 use std::alloc::Global;
 use std::mem;
@@ -80,26 +80,26 @@ fn place_of_scan(list: &[Want], scan: usize) -> usize {
 }
 
 /// Puts a want in its place. Answers whether it is new.
-fn insert_want(list: &mut Vec<Want>, want: Want) -> Result<bool, Stop> {
+fn insert_want(list: &mut Vec<Want>, want: Want) -> Result<bool, PlanStop> {
     let place = place_of_scan(list, want.scan);
     if let Some(other) = list.get(place) {
         if other.scan == want.scan {
             return if other.row == want.row {
                 Ok(false)
             } else {
-                Err(Stop::NoPlan)
+                Err(PlanStop::NoPlan)
             };
         }
     }
     if place > list.len() {
-        return Err(Stop::NoPlan);
+        return Err(PlanStop::NoPlan);
     }
     list.insert(place, want)?;
     Ok(true)
 }
 
 /// An empty list of wants for each mux.
-fn no_wants(alloc: Global, muxes: usize) -> Result<Vec<Vec<Want>>, Stop> {
+fn no_wants(alloc: Global, muxes: usize) -> Result<Vec<Vec<Want>>, PlanStop> {
     let mut wants = Vec::new(alloc);
     for _ in 0..muxes {
         wants.push(Vec::new(alloc))?;
@@ -108,7 +108,7 @@ fn no_wants(alloc: Global, muxes: usize) -> Result<Vec<Vec<Want>>, Stop> {
 }
 
 /// Which segments are on the path at reset.
-fn open_at_reset(alloc: Global, all: &Segments) -> Result<Vec<bool>, Stop> {
+fn open_at_reset(alloc: Global, all: &Segments) -> Result<Vec<bool>, PlanStop> {
     let mut opened = vec![in alloc; false; all.segments.len()]?;
     let mut todo = vec![in alloc; OUTER]?;
     for _ in 0..all.segments.len() {
@@ -126,7 +126,7 @@ fn open_at_reset(alloc: Global, all: &Segments) -> Result<Vec<bool>, Stop> {
 
 impl Stretch {
     /// No work.
-    pub fn new(alloc: Global, all: &Segments) -> Result<Stretch, Stop> {
+    pub fn new(alloc: Global, all: &Segments) -> Result<Stretch, PlanStop> {
         Ok(Stretch {
             alloc,
             items: Vec::new(alloc),
@@ -139,13 +139,18 @@ impl Stretch {
     }
 
     /// Adds a run.
-    pub fn add_run(&mut self, cycles: u32) -> Result<(), Stop> {
+    pub fn add_run(&mut self, cycles: u32) -> Result<(), PlanStop> {
         self.items.push(Item::Run(cycles))?;
         Ok(())
     }
 
     /// Adds a round, with the scans that it takes.
-    pub fn add_round(&mut self, all: &Segments, round: Round, needs: Needs) -> Result<(), Stop> {
+    pub fn add_round(
+        &mut self,
+        all: &Segments,
+        round: Round,
+        needs: Needs,
+    ) -> Result<(), PlanStop> {
         let number = self.rounds.len();
         self.rounds.push(round)?;
         if needs.ends.is_empty() {
@@ -163,7 +168,7 @@ impl Stretch {
     }
 
     /// Adds a scan, which also has on its path what stays open.
-    pub fn add_scan(&mut self, all: &Segments, round: Option<usize>) -> Result<usize, Stop> {
+    pub fn add_scan(&mut self, all: &Segments, round: Option<usize>) -> Result<usize, PlanStop> {
         let number = self.scans.len();
         self.scans.push(PlannedScan {
             round,
@@ -178,15 +183,20 @@ impl Stretch {
     }
 
     /// Wants a row at a scan. Answers whether that is new.
-    fn want(&mut self, mux: usize, want: Want) -> Result<bool, Stop> {
+    fn want(&mut self, mux: usize, want: Want) -> Result<bool, PlanStop> {
         if mux >= self.wants.len() {
-            return Err(Stop::NoPlan);
+            return Err(PlanStop::NoPlan);
         }
         insert_want(&mut self.wants[mux], want)
     }
 
     /// Wants a segment on the path of a scan, and hence those around it.
-    pub fn want_around(&mut self, all: &Segments, scan: usize, segment: usize) -> Result<(), Stop> {
+    pub fn want_around(
+        &mut self,
+        all: &Segments,
+        scan: usize,
+        segment: usize,
+    ) -> Result<(), PlanStop> {
         let mut s = segment;
         for _ in 0..17 {
             if s == OUTER {
@@ -199,11 +209,11 @@ impl Stretch {
             put_at(&mut self.opened, s, true)?;
             s = it.up;
         }
-        Err(Stop::NoPlan)
+        Err(PlanStop::NoPlan)
     }
 
     /// Adds a scan where these segments need another row than what stays open.
-    fn make_way(&mut self, all: &Segments, ends: &[usize]) -> Result<(), Stop> {
+    fn make_way(&mut self, all: &Segments, ends: &[usize]) -> Result<(), PlanStop> {
         if self.kept.is_empty() {
             return Ok(());
         }
@@ -220,7 +230,11 @@ impl Stretch {
 }
 
 /// The row of each mux that these segments need.
-fn asked_rows(alloc: Global, all: &Segments, ends: &[usize]) -> Result<Vec<Option<usize>>, Stop> {
+fn asked_rows(
+    alloc: Global,
+    all: &Segments,
+    ends: &[usize],
+) -> Result<Vec<Option<usize>>, PlanStop> {
     let mut asked = vec![in alloc; None; all.muxes.len()]?;
     for end in ends {
         let mut s = *end;
@@ -237,7 +251,7 @@ fn asked_rows(alloc: Global, all: &Segments, ends: &[usize]) -> Result<Vec<Optio
 }
 
 /// Whether a segment needs another row of some mux.
-fn clashes(all: &Segments, asked: &[Option<usize>], segment: usize) -> Result<bool, Stop> {
+fn clashes(all: &Segments, asked: &[Option<usize>], segment: usize) -> Result<bool, PlanStop> {
     let mut s = segment;
     for _ in 0..17 {
         if s == OUTER {
@@ -249,5 +263,5 @@ fn clashes(all: &Segments, asked: &[Option<usize>], segment: usize) -> Result<bo
         }
         s = it.up;
     }
-    Err(Stop::NoPlan)
+    Err(PlanStop::NoPlan)
 }

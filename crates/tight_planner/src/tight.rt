@@ -5,7 +5,7 @@ use crate::chip::{Chip, power_up, reset};
 use crate::how::How;
 use crate::needs::{do_writes, needs_of};
 use crate::segments::Segments;
-use crate::stop::Stop;
+use crate::stop::PlanStop;
 use crate::stretch::{Round, Stretch};
 use ij_bits::{Bits, List, OutOfMemory};
 use ij_io::SureSink;
@@ -38,7 +38,7 @@ struct Planner<'a> {
 
 impl<'a> Planner<'a> {
     /// A plan of nothing.
-    fn new(alloc: Global, net: &'a Net, tree: &Tree, how: How) -> Result<Planner<'a>, Stop> {
+    fn new(alloc: Global, net: &'a Net, tree: &Tree, how: How) -> Result<Planner<'a>, PlanStop> {
         let all = Segments::of(alloc, net, tree)?;
         let stretch = Stretch::new(alloc, &all)?;
         let mut chip = Chip::new(alloc, net, &all)?;
@@ -57,11 +57,11 @@ impl<'a> Planner<'a> {
     }
 
     /// Adds the rounds of an iApply.
-    fn add_apply(&mut self, rounds: List<Group>) -> Result<(), Stop> {
-        self.applies = self.applies.checked_add(1).ok_or(Stop::NoPlan)?;
+    fn add_apply(&mut self, rounds: List<Group>) -> Result<(), PlanStop> {
+        self.applies = self.applies.checked_add(1).ok_or(PlanStop::NoPlan)?;
         let mut number: u32 = 0;
         for group in rounds.into_vec() {
-            number = number.checked_add(1).ok_or(Stop::NoPlan)?;
+            number = number.checked_add(1).ok_or(PlanStop::NoPlan)?;
             let needs = needs_of(self.alloc, &self.all.of_reg, &group, &self.meant, self.how)?;
             do_writes(&mut self.meant, &group)?;
             let round = Round {
@@ -75,7 +75,7 @@ impl<'a> Planner<'a> {
     }
 
     /// Writes the text of the work since the last reset.
-    fn put_stretch(&mut self) -> Result<(), Stop> {
+    fn put_stretch(&mut self) -> Result<(), PlanStop> {
         if self.stretch.items.is_empty() {
             return Ok(());
         }
@@ -86,7 +86,7 @@ impl<'a> Planner<'a> {
     }
 
     /// Adds a reset.
-    fn add_reset(&mut self, device: &Device) -> Result<(), Stop>
+    fn add_reset(&mut self, device: &Device) -> Result<(), PlanStop>
         requires { IsDevice device.now }
     {
         self.put_stretch()?;
@@ -96,7 +96,7 @@ impl<'a> Planner<'a> {
     }
 
     /// Adds a bit step.
-    fn add_step(&mut self, device: &Device, step: BitStep) -> Result<(), Stop>
+    fn add_step(&mut self, device: &Device, step: BitStep) -> Result<(), PlanStop>
         requires { IsDevice device.now }
     {
         match step {
@@ -115,7 +115,7 @@ fn planned<'b>(
     device: &Device,
     steps: &mut BitSteps<'b>,
     how: How,
-) -> Result<SureSink, Stop>
+) -> Result<SureSink, PlanStop>
     requires { IsDevice device.now }
 {
     let mut planner = Planner::new(alloc, net, tree, how)?;
@@ -127,7 +127,7 @@ fn planned<'b>(
         };
         planner.add_step(device, step)?;
     }
-    Err(Stop::NoPlan)
+    Err(PlanStop::NoPlan)
 }
 
 /// The SVF text of a procedure's bit steps, planned as a whole for the fewest clocks; `None` where there is
@@ -150,7 +150,7 @@ pub fn tight_text<'b>(
 {
     match planned(alloc, net, tree, device, steps, how) {
         Ok(text) => Ok(Some(text)),
-        Err(Stop::NoPlan) => Ok(None),
-        Err(Stop::NoMemory) => Err(OutOfMemory),
+        Err(PlanStop::NoPlan) => Ok(None),
+        Err(PlanStop::NoMemory) => Err(OutOfMemory),
     }
 }

@@ -5,7 +5,7 @@ use crate::access::{at, copy_at, put_at};
 use crate::openings::row_wanted;
 use crate::rest::{early_rest, rest_row};
 use crate::segments::{MuxInfo, OUTER, Segments, row_segment};
-use crate::stop::Stop;
+use crate::stop::PlanStop;
 use crate::stretch::{Set, Stretch};
 use std::alloc::Global;
 
@@ -38,7 +38,7 @@ struct Choice {
 
 impl Visits {
     /// At reset.
-    fn new(alloc: Global, all: &Segments) -> Result<Visits, Stop> {
+    fn new(alloc: Global, all: &Segments) -> Result<Visits, PlanStop> {
         let mut now = Vec::new(alloc);
         for info in &all.muxes {
             now.push(info.reset_row)?;
@@ -54,7 +54,7 @@ impl Visits {
     }
 
     /// A scan has a segment on its path.
-    fn enter(&mut self, all: &Segments, segment: usize, scan: usize) -> Result<(), Stop> {
+    fn enter(&mut self, all: &Segments, segment: usize, scan: usize) -> Result<(), PlanStop> {
         let last = copy_at(&self.last, segment)?;
         put_at(&mut self.before, segment, last)?;
         put_at(&mut self.last, segment, Some(scan))?;
@@ -66,7 +66,7 @@ impl Visits {
 impl Stretch {
     /// Finds the select values of all scans: the better of two ways to treat rows that were never on the
     /// path.
-    pub fn settle(&mut self, all: &Segments) -> Result<(), Stop> {
+    pub fn settle(&mut self, all: &Segments) -> Result<(), PlanStop> {
         if all.uneven {
             let wary = self.visit_all(all, true)?;
             let plain = self.visit_all(all, false)?;
@@ -80,7 +80,7 @@ impl Stretch {
     }
 
     /// Finds the select values of all scans. Answers the bits that these shift.
-    fn visit_all(&mut self, all: &Segments, wary: bool) -> Result<u64, Stop> {
+    fn visit_all(&mut self, all: &Segments, wary: bool) -> Result<u64, PlanStop> {
         for i in 0..self.scans.len() {
             self.clear_sets(i)?;
         }
@@ -92,18 +92,18 @@ impl Stretch {
     }
 
     /// A scan sets nothing yet.
-    fn clear_sets(&mut self, scan: usize) -> Result<(), Stop> {
+    fn clear_sets(&mut self, scan: usize) -> Result<(), PlanStop> {
         if scan >= self.scans.len() {
-            return Err(Stop::NoPlan);
+            return Err(PlanStop::NoPlan);
         }
         self.scans[scan].sets.clear();
         Ok(())
     }
 
     /// A scan writes a select value.
-    fn add_set(&mut self, scan: usize, set: Set) -> Result<(), Stop> {
+    fn add_set(&mut self, scan: usize, set: Set) -> Result<(), PlanStop> {
         if scan >= self.scans.len() {
-            return Err(Stop::NoPlan);
+            return Err(PlanStop::NoPlan);
         }
         self.scans[scan].sets.push(set)?;
         Ok(())
@@ -116,7 +116,7 @@ impl Stretch {
         visits: &mut Visits,
         scan: usize,
         wary: bool,
-    ) -> Result<(), Stop> {
+    ) -> Result<(), PlanStop> {
         let mut todo = vec![in self.alloc; OUTER]?;
         for _ in 0..all.segments.len() {
             let Some(s) = todo.pop() else {
@@ -138,7 +138,7 @@ impl Stretch {
         m: usize,
         scan: usize,
         wary: bool,
-    ) -> Result<usize, Stop> {
+    ) -> Result<usize, PlanStop> {
         let next = copy_at(&visits.next, m)?;
         let wanted = row_wanted(at(&self.wants, m)?, next, scan);
         let choice = self.choice(all, visits, m, wanted, scan, wary)?;
@@ -148,7 +148,7 @@ impl Stretch {
                 row: choice.row,
                 early: choice.early,
             };
-            self.add_set(choice.scan.ok_or(Stop::NoPlan)?, set)?;
+            self.add_set(choice.scan.ok_or(PlanStop::NoPlan)?, set)?;
             put_at(&mut visits.now, m, choice.row)?;
         }
         if wanted.is_some() {
@@ -166,7 +166,7 @@ impl Stretch {
         wanted: Option<usize>,
         scan: usize,
         wary: bool,
-    ) -> Result<Choice, Stop> {
+    ) -> Result<Choice, PlanStop> {
         let info = copy_at(&all.muxes, m)?;
         if let Some(setter) = copy_at(&visits.before, info.set_from)? {
             let row = match wanted {
@@ -199,7 +199,7 @@ pub(crate) fn early_scan(
     m: usize,
     info: MuxInfo,
     row: usize,
-) -> Result<Option<usize>, Stop> {
+) -> Result<Option<usize>, PlanStop> {
     let other = if row == info.reset_row {
         copy_at(&visits.now, m)?
     } else {

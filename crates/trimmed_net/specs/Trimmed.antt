@@ -97,7 +97,7 @@ trimmed_thing t = record {
   name = full t.name;
   left = t.left;
   right = t.right;
-  bits = full t.bits;
+  bits = record { items = t.bits };
   words = full (map trimmed_word t.words);
 }
 

@@ -25,21 +25,6 @@ pub(crate) fn list_copy<T: Copy>(alloc: Global, items: &[T]) -> Result<List<T>, 
     Ok(copy)
 }
 
-/// The same items, in the list that they are in where that has no room to spare.
-pub(crate) fn list_trimmed<T: Copy + Drop>(
-    alloc: Global,
-    list: List<T>,
-) -> Result<List<T>, OutOfMemory>
-    ensures { IfOk result (λ trimmed. trimmed ≡ full list.items) }
-{
-    let items = list.into_vec();
-    if items.capacity() == items.len() {
-        Ok(List::from(items))
-    } else {
-        list_copy(alloc, &items)
-    }
-}
-
 /// The same names.
 pub(crate) fn names_copy(alloc: Global, names: &[Name]) -> Result<List<Name>, OutOfMemory>
     ensures { IfOk result (λ copy. copy ≡ full (map full (map (λ name. name.items) names.now))) }

@@ -12,8 +12,7 @@ use std::mem::replace;
 /// The same network, with lists that have no room to spare: the one network of this view (IEEE 1687-2014,
 /// ICL).
 ///
-/// Bits and values end with their last word of 64 bits. The bits of named things stay where they are, if they
-/// have no room to spare. [`OutOfMemory`] is all that it refuses by.
+/// Bits and values end with their last word of 64 bits. [`OutOfMemory`] is all that it refuses by.
 pub fn trim(alloc: Global, net: Net) -> Result<Net, OutOfMemory>
     ensures { IfOk result (λ n. n ≡ trimmed (seen_net net)) }
 {

@@ -6,7 +6,7 @@ ghost use Rattle.icl_signals.specs.PlainNets.{seen_inst, seen_node, seen_thing};
 ghost use Rattle.trimmed_net.specs.Trimmed.{trimmed_reg, trimmed_row, trimmed_mux, trimmed_input};
 ghost use Rattle.trimmed_net.specs.Trimmed.{trimmed_output, trimmed_inst, trimmed_node, trimmed_thing};
 
-use crate::lists::{list_copy, list_for, list_trimmed, names_copy};
+use crate::lists::{list_copy, list_for, names_copy};
 use crate::terns::{tern_copy, terns_copy, words_copy};
 use ij_bits::{List, OutOfMemory};
 use net_graph::{Inst, Mux, Node, PortIn, PortOut, Reg, Row, Thing};
@@ -178,7 +178,7 @@ fn thing_trimmed(alloc: Global, thing: Thing) -> Result<Thing, OutOfMemory>
 {
     let name = list_copy(alloc, thing.name.as_slice())?;
     let words = words_copy(alloc, thing.words.as_slice())?;
-    let bits = list_trimmed(alloc, thing.bits)?;
+    let bits = thing.bits.trimmed(alloc)?;
     Ok(Thing {
         node: thing.node,
         name,

@@ -6,8 +6,8 @@ use Rattle.icl_expressions.proofs.parts.read_following.Given as goal
 abbrev pub invariant-loop-alloc : goal.invariant-loop-alloc
 invariant-loop-alloc g l = record {
   shorter : length l.parts.rest ≤ length l.fn.first.rest;
-  goes_on : more_parted l.mark g.T.Part.reader (seen_few g.T.Part.view l.parts.value) l.parts.rest
-      ≡ more_parted l.mark g.T.Part.reader (g.T.Part.view l.fn.first.value ∷ []) l.fn.first.rest;
+  goes_on : more_parted l.mark g.T.Parted.reader (seen_few g.T.Parted.view l.parts.value) l.parts.rest
+      ≡ more_parted l.mark g.T.Parted.reader (g.T.Parted.view l.fn.first.value ∷ []) l.fn.first.rest;
 }
 
 abbrev pub decreases-loop-alloc : goal.decreases-loop-alloc

@@ -1,7 +1,7 @@
 use Rattle.std.proofs.Common.{ap, ◌∙◌, map}
 use Rattle.icl_elab.specs.WellFormed.{is_register}
 use Rattle.icl_references.specs.Roles.{seen_hier}
-use Rattle.icl_signals.specs.Told.{seen_entry}
+use Rattle.icl_signals.specs.TrueEnds.{seen_entry}
 use Rattle.icl_signals.proofs.Placed.{placed}
 use Rattle.icl_signals.proofs.connecting.own_registers.Goals as goal
 

@@ -4,7 +4,7 @@ use Rattle.icl_references.specs.Roles.{seen_cell}
 use Rattle.icl_signals.specs.Moves.{Entry, entries_in}
 use Rattle.icl_signals.specs.Kinds.{test_of}
 use Rattle.icl_signals.specs.Inside.{numbered}
-use Rattle.icl_signals.specs.Told.{seen_entry}
+use Rattle.icl_signals.specs.TrueEnds.{seen_entry}
 use Rattle.icl_signals.proofs.Placed.{numbered_are, numbered_each}
 use Rattle.icl_signals.proofs.entries.entries_at.Goals as goal
 

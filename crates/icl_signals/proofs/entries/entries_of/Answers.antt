@@ -6,7 +6,7 @@ use Rattle.icl_references.specs.declared.hier.Cell.{Cell}
 use Rattle.icl_references.specs.Roles.{seen_cell}
 use Rattle.icl_signals.specs.Moves.{Entry, entries_in}
 use Rattle.icl_signals.specs.Kinds.{test_of}
-use Rattle.icl_signals.specs.Told.{seen_entry}
+use Rattle.icl_signals.specs.TrueEnds.{seen_entry}
 use Rattle.ij_bits.proofs.Lists.{split_at}
 use Rattle.icl_signals.proofs.entries.entries_of.Goals as goal
 

@@ -5,7 +5,7 @@ use Rattle.icl_references.specs.Roles.{seen_cell, seen_hier}
 use Rattle.icl_signals.specs.Moves.{entries_in}
 use Rattle.icl_signals.specs.Connecting.{entries_that}
 use Rattle.icl_signals.specs.Kinds.{test_of}
-use Rattle.icl_signals.specs.Told.{seen_entry}
+use Rattle.icl_signals.specs.TrueEnds.{seen_entry}
 use Rattle.icl_signals.proofs.entries.entries_of.Given as goal
 
 abbrev pub invariant-loop-cell : goal.invariant-loop-cell

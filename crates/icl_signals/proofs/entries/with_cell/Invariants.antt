@@ -4,7 +4,7 @@ use Rattle.std.specs.List.{enumerate_from}
 use Rattle.icl_references.specs.Roles.{seen_part, seen_cell}
 use Rattle.icl_signals.specs.Moves.{entry_of, entries_in}
 use Rattle.icl_signals.specs.Kinds.{test_of}
-use Rattle.icl_signals.specs.Told.{seen_entry}
+use Rattle.icl_signals.specs.TrueEnds.{seen_entry}
 use Rattle.icl_signals.proofs.entries.with_cell.Given as goal
 
 abbrev pub invariant-loop-what : goal.invariant-loop-what

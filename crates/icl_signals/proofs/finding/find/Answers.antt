@@ -5,7 +5,7 @@ use Rattle.icl_signals.specs.declared.wires.Wire.{Wire}
 use Rattle.icl_signals.specs.declared.found.Found.{Found}
 use Rattle.icl_signals.specs.Wirings.{cells_of}
 use Rattle.icl_signals.specs.Traces.{follow}
-use Rattle.icl_signals.specs.Told.{resume}
+use Rattle.icl_signals.specs.TrueEnds.{resume}
 use Rattle.icl_signals.specs.Found.{IsFound, turned_end}
 use Rattle.icl_signals.proofs.Ways.{IsOnWay, IsMet, begins, met_first, met_before, met_now, moved, ended}
 use Rattle.icl_signals.proofs.Ways.{goes_on, comes_back}

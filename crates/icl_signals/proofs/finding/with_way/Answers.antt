@@ -1,7 +1,7 @@
 use Rattle.std.proofs.Common.{ap, ◌∙◌, arith}
 use Rattle.icl_signals.specs.Wirings.{cells_of}
 use Rattle.icl_signals.specs.Traces.{follow}
-use Rattle.icl_signals.specs.Told.{resume}
+use Rattle.icl_signals.specs.TrueEnds.{resume}
 use Rattle.icl_signals.proofs.Ways.{next_found}
 use Rattle.icl_signals.proofs.finding.with_way.Goals as goal
 

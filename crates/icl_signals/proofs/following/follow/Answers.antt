@@ -3,7 +3,7 @@ use Rattle.icl_signals.specs.declared.wires.Wire.{Wire}
 use Rattle.icl_signals.specs.declared.wires.End.{End}
 use Rattle.icl_signals.specs.Wirings.{cells_of}
 use Rattle.icl_signals.specs.Traces.{follow}
-use Rattle.icl_signals.specs.Told.{resume}
+use Rattle.icl_signals.specs.TrueEnds.{resume}
 use Rattle.icl_signals.proofs.following.follow.Goals as goal
 
 pub loop-look-preserved : goal.loop-look-preserved

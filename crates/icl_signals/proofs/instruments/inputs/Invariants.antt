@@ -3,7 +3,7 @@ use Rattle.icl_declarations.specs.Faults.{each}
 use Rattle.icl_signals.specs.Refusals.{after}
 use Rattle.icl_signals.specs.Wirings.{cells_of}
 use Rattle.icl_signals.specs.Connecting.{input_of}
-use Rattle.icl_signals.specs.Told.{seen_entry}
+use Rattle.icl_signals.specs.TrueEnds.{seen_entry}
 use Rattle.icl_signals.specs.Inside.{numbered}
 use Rattle.icl_signals.specs.PlainNets.{seen_input}
 use Rattle.icl_signals.proofs.instruments.inputs.Given as goal

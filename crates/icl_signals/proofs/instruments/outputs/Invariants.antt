@@ -1,6 +1,6 @@
 use Rattle.std.proofs.Common.{◌≡◌, map, take}
 use Rattle.icl_signals.specs.Connecting.{output_of}
-use Rattle.icl_signals.specs.Told.{seen_entry}
+use Rattle.icl_signals.specs.TrueEnds.{seen_entry}
 use Rattle.icl_signals.specs.Inside.{numbered}
 use Rattle.icl_signals.specs.PlainNets.{seen_output}
 use Rattle.icl_signals.proofs.instruments.outputs.Given as goal

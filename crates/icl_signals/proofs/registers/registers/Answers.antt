@@ -1,6 +1,6 @@
 use Rattle.std.proofs.Common.{◌∙◌}
 use Rattle.icl_signals.specs.Wirings.{cells_of}
-use Rattle.icl_signals.specs.Told.{seen_entry}
+use Rattle.icl_signals.specs.TrueEnds.{seen_entry}
 use Rattle.icl_signals.specs.PlainNets.{seen_reg}
 use Rattle.icl_signals.specs.Connecting.{register_of}
 use Rattle.icl_declarations.proofs.Each.{round_goes}

@@ -1,7 +1,7 @@
 use Rattle.std.proofs.Common.{◌≡◌, map, take}
 use Rattle.icl_signals.specs.Wirings.{cells_of}
 use Rattle.icl_signals.specs.Connecting.{thing_of}
-use Rattle.icl_signals.specs.Told.{seen_entry}
+use Rattle.icl_signals.specs.TrueEnds.{seen_entry}
 use Rattle.icl_signals.specs.PlainNets.{seen_thing}
 use Rattle.icl_signals.proofs.things.things.Given as goal
 

@@ -1,9 +1,9 @@
-use Rattle.std.proofs.Common.{arith}
+use Rattle.std.proofs.Common.{arith, ◌∙◌}
 use Rattle.pdl_targets.proofs.Valued.{value_width}
 use Rattle.pdl_targets.proofs.naming.named_bits.Goals as goal
 
 pub returns-clause-wide : goal.returns-clause-wide
-returns-clause-wide c = value_width _ _ _ c.in_ok-values.values c.in_ok-values.ensures
+returns-clause-wide c = value_width _ _ _ c.in_ok-values.values c.in_ok-values.ensures ∙ c.len.ensures
 
 pub returns-clause-few : goal.returns-clause-few
 returns-clause-few c =

@@ -1,4 +1,4 @@
-use Rattle.std.proofs.Common.{List, get_or, refl, ap, ◌∙◌}
+use Rattle.std.proofs.Common.{List, ap, ◌∙◌, arith}
 use Rattle.ij_bits.specs.Room.{Listed}
 use Rattle.ij_text.specs.Numbers.{tern_bits}
 use Rattle.net_graph.specs.declared.step.ReadBit.{ReadBit}
@@ -13,12 +13,12 @@ returns-in-Err c =
     let net = c.args.net.now in
     let values = tern_bits c.args.values.now in
     read_refused net c.args.at c.args.read c.args.spots.now values c.loop-i.i
-    (get_or c.args.spots.now c.loop-i.i first_spot) c.in-Some.value c.compared-picked.result
+    c.get-spot.result c.in-Some.value c.compared-picked.result
     c.loop-i.reads.items (reads_of net c.args.at c.args.read 0 c.args.spots.now values) c.in-Err.fault
     (record {
-      below = c.loop-i-test.true;
+      below = omega (arith, c.loop-i-test.true, c.len-i-end.ensures);
       many = tern_length c.args.values.now ∙ c.requires.wide;
-      spot_is = refl;
+      spot_is = c.get-spot.ensures first_spot;
       value_is = c.in-Some.ensures;
     })
     c.compared-picked.ensures c.in-Err.ensures c.loop-i.invariant
@@ -32,23 +32,22 @@ loop-i-preserved c =
     elim c.match-value_at.branch [
       | in-Some+in-Ok+in_ok-push-in-Ok w ↦
           read_next net c.args.at c.args.read c.args.spots.now values c.loop-i.i
-          (get_or c.args.spots.now c.loop-i.i first_spot) w.in-Some.value w.compared-picked.result
+          c.get-spot.result w.in-Some.value w.compared-picked.result
           w.in-Ok.bit c.loop-i.reads.items c.match-value_at.reads.items all
           (record {
-            below = c.loop-i-test.true;
+            below = omega (arith, c.loop-i-test.true, c.len-i-end.ensures);
             many = tern_length c.args.values.now ∙ c.requires.wide;
-            spot_is = refl;
+            spot_is = c.get-spot.ensures first_spot;
             value_is = w.in-Some.ensures;
           })
           w.compared-picked.ensures w.in-Ok.ensures
           (ap items w.reads-is ∙ w.in_ok-push-in-Ok.ensures.ok) c.loop-i.invariant
       | in-None w ↦
-          not_read net c.args.at c.args.read c.args.spots.now values c.loop-i.i (get_or c.args.spots.now
-          c.loop-i.i first_spot) c.loop-i.reads.items c.match-value_at.reads.items all
+          not_read net c.args.at c.args.read c.args.spots.now values c.loop-i.i c.get-spot.result c.loop-i.reads.items c.match-value_at.reads.items all
           (record {
-            below = c.loop-i-test.true;
+            below = omega (arith, c.loop-i-test.true, c.len-i-end.ensures);
             many = tern_length c.args.values.now ∙ c.requires.wide;
-            spot_is = refl;
+            spot_is = c.get-spot.ensures first_spot;
             value_is = w.in-None.ensures;
           })
           (ap items w.reads-is) c.loop-i.invariant

@@ -1,4 +1,4 @@
-use Rattle.std.proofs.Common.{List, get_or, refl, ap, ◌∙◌}
+use Rattle.std.proofs.Common.{List, ap, ◌∙◌, arith}
 use Rattle.ij_bits.specs.Room.{Listed}
 use Rattle.ij_text.specs.Numbers.{tern_bits}
 use Rattle.net_graph.specs.declared.step.WriteBit.{WriteBit}
@@ -13,12 +13,12 @@ returns-in-Err c =
     let net = c.args.net.now in
     let values = tern_bits c.args.values.now in
     write_refused net c.args.at c.args.spots.now values c.loop-i.i
-    (get_or c.args.spots.now c.loop-i.i first_spot) c.in-Some.value c.written.result c.loop-i.writes.items
+    c.get-spot.result c.in-Some.value c.written.result c.loop-i.writes.items
     (writes_of net c.args.at c.args.spots.now values) c.in-Err.fault
     (record {
-      below = c.loop-i-test.true;
+      below = omega (arith, c.loop-i-test.true, c.len-i-end.ensures);
       many = tern_length c.args.values.now ∙ c.requires.wide;
-      spot_is = refl;
+      spot_is = c.get-spot.ensures first_spot;
       value_is = c.in-Some.ensures;
     })
     c.written.ensures c.in-Err.ensures c.loop-i.invariant
@@ -32,23 +32,22 @@ loop-i-preserved c =
     elim c.match-value_at.branch [
       | in-Some+in-Ok+in_ok-push-in-Ok w ↦
           written_next net c.args.at c.args.spots.now values c.loop-i.i
-          (get_or c.args.spots.now c.loop-i.i first_spot) w.in-Some.value w.written.result w.in-Ok.write
+          c.get-spot.result w.in-Some.value w.written.result w.in-Ok.write
           c.loop-i.writes.items c.match-value_at.writes.items all
           (record {
-            below = c.loop-i-test.true;
+            below = omega (arith, c.loop-i-test.true, c.len-i-end.ensures);
             many = tern_length c.args.values.now ∙ c.requires.wide;
-            spot_is = refl;
+            spot_is = c.get-spot.ensures first_spot;
             value_is = w.in-Some.ensures;
           })
           w.written.ensures w.in-Ok.ensures
           (ap items w.writes-is ∙ w.in_ok-push-in-Ok.ensures.ok) c.loop-i.invariant
       | in-None w ↦
-          skipped net c.args.at c.args.spots.now values c.loop-i.i (get_or c.args.spots.now c.loop-i.i
-          first_spot) c.loop-i.writes.items c.match-value_at.writes.items all
+          skipped net c.args.at c.args.spots.now values c.loop-i.i c.get-spot.result c.loop-i.writes.items c.match-value_at.writes.items all
           (record {
-            below = c.loop-i-test.true;
+            below = omega (arith, c.loop-i-test.true, c.len-i-end.ensures);
             many = tern_length c.args.values.now ∙ c.requires.wide;
-            spot_is = refl;
+            spot_is = c.get-spot.ensures first_spot;
             value_is = w.in-None.ensures;
           })
           (ap items w.writes-is) c.loop-i.invariant

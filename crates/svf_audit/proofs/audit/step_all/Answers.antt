@@ -5,7 +5,7 @@ use Rattle.tap_machine.specs.Play.{scans_in}
 use Rattle.tap_machine.proofs.ScanCounts.{scans_first}
 use Rattle.svf_audit.specs.Audit.{audit_from}
 use Rattle.svf_audit.specs.Auditing.{last_ir, state_of}
-use Rattle.svf_audit.specs.Kept.{last_length}
+use Rattle.svf_audit.specs.LastParts.{last_length}
 use Rattle.svf_audit.proofs.Looping.{command_here, fits_next, leads_on, leads_to_no, Leads}
 use Rattle.svf_audit.proofs.audit.step_all.Goals as goal
 

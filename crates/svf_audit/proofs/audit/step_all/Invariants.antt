@@ -3,7 +3,7 @@ use Rattle.svf_writer.specs.Fits.{AreFitAfter}
 use Rattle.tap_machine.specs.Play.{scans_in}
 use Rattle.svf_audit.specs.Audit.{audit_from}
 use Rattle.svf_audit.specs.Auditing.{state_of, IsAuditor}
-use Rattle.svf_audit.specs.Kept.{last_length}
+use Rattle.svf_audit.specs.LastParts.{last_length}
 use Rattle.svf_audit.proofs.Looping.{Leads}
 use Rattle.svf_audit.proofs.audit.step_all.Given as goal
 

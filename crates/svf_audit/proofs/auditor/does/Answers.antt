@@ -6,7 +6,7 @@ use Rattle.net_graph.specs.Path.{is_select}
 use Rattle.net_graph.specs.SeenSteps.{SeenGroup, seen_group}
 use Rattle.svf_audit.specs.declared.answer.Cause.TheVariants.{Write, Read}
 use Rattle.svf_audit.specs.Audit.{bits_on, changed, does_reads, does_writes, expected_of, need, same_expects}
-use Rattle.svf_audit.specs.Kept.{looked_for}
+use Rattle.svf_audit.specs.LastParts.{looked_for}
 use Rattle.svf_audit.specs.Registers.{path_in}
 use Rattle.svf_audit.proofs.Found.{bits_count, shifted_shape}
 use Rattle.net_graph.specs.Chain.{IsRoute}

@@ -1,7 +1,7 @@
 use Rattle.std.proofs.Common.{ap, sym, ◌∙◌}
 use Rattle.std.specs.Prelude.{not}
 use Rattle.net_graph.specs.SeenSteps.{seen_group}
-use Rattle.svf_audit.specs.Kept.{looked_for, seen_kept}
+use Rattle.svf_audit.specs.LastParts.{looked_for, seen_last}
 use Rattle.svf_audit.proofs.Looking.{length-expected}
 use Rattle.svf_audit.proofs.Numbering.{path_countable, reads_countable, reads_none}
 use Rattle.svf_audit.proofs.scan.does_reads.Goals as goal
@@ -9,7 +9,7 @@ use Rattle.svf_audit.proofs.scan.does_reads.Goals as goal
 pub returns-then-is_empty-clause-done : goal.returns-then-is_empty-clause-done
 returns-then-is_empty-clause-done c =
     let kept = c.args.kept.now in
-    let long = length-expected kept.len c.args.tdo.now (seen_kept kept).mask c.requires.tdo in
+    let long = length-expected kept.len c.args.tdo.now (seen_last kept).mask c.requires.tdo in
     ap not c.compares_some.ensures ∙ reads_none
     (looked_for kept c.args.tdo.now) c.args.bits.now c.args.path.now c.args.group.now.reads.items
     (long ∙ sym c.requires.fits) (c.is_empty.ensures.0 c.if-is_empty.true)

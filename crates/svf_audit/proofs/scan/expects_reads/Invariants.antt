@@ -1,7 +1,7 @@
 use Rattle.std.proofs.Common.{◌≡◌, drop}
 use Rattle.std.specs.Prelude.{map}
 use Rattle.svf_audit.specs.Audit.{expected_of, same_expects}
-use Rattle.svf_audit.specs.Kept.{looked_for}
+use Rattle.svf_audit.specs.LastParts.{looked_for}
 use Rattle.svf_audit.proofs.scan.expects_reads.Given as goal
 
 abbrev pub invariant-loop-k : goal.invariant-loop-k

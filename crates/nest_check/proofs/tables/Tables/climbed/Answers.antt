@@ -2,25 +2,25 @@ use Rattle.std.proofs.Common.{◌≡◌, ℕ, zero, suc, ◌+◌, ◌-◌, ◌<�
 use Rattle.std.proofs.Common.{◌∙◌, refl, arith, append_assoc}
 use Rattle.std.proofs.lemmas.List.{append-nil}
 use Rattle.nest_check.specs.Tables.{around_at, climbed, climbed_on}
-use Rattle.nest_check.specs.declared.place.Level.{Level}
-use Rattle.nest_check.specs.declared.tables.Around.{Around}
+use Rattle.nest_check.specs.declared.place.BegunMux.{BegunMux}
+use Rattle.nest_check.specs.declared.tables.MetMux.{MetMux}
 use Rattle.nest_check.proofs.tables.Tables.climbed.Goals as goal
 use Rattle.nest_check.proofs.tables.Tables.climbed.Goals.{else-loop-step-test, then-loop-step-test+in-None}
 
-one_more : (n i here : ℕ) (met : List Around) (a : Around) → i < n → around_at met here ≡ Some a
+one_more : (n i here : ℕ) (met : List MetMux) (a : MetMux) → i < n → around_at met here ≡ Some a
     → climbed (n - i) met here ≡ a.level ∷ climbed (n - (i + 1)) met a.outer
 one_more n i here met a l e =
     let left : n - i ≡ suc (n - (i + 1)) = omega (arith, l) in
     ap (λ k. climbed k met here) left ∙ ap (climbed_on (climbed (n - (i + 1)) met)) e
 
-none_more : (k here : ℕ) (met : List Around) → around_at met here ≡ None → climbed k met here ≡ []
+none_more : (k here : ℕ) (met : List MetMux) → around_at met here ≡ None → climbed k met here ≡ []
 none_more zero here met e = refl
 none_more (suc k) here met e = ap (climbed_on (climbed k met)) e
 
-done : (n i here : ℕ) (met : List Around) → n ≤ i → climbed (n - i) met here ≡ []
+done : (n i here : ℕ) (met : List MetMux) → n ≤ i → climbed (n - i) met here ≡ []
 done n i here met l = let left : n - i ≡ 0 = omega (arith, l) in ap (λ k. climbed k met here) left
 
-whole : (xs ys all : List Level) → ys ≡ [] → xs ++ ys ≡ all → xs ≡ all
+whole : (xs ys all : List BegunMux) → ys ≡ [] → xs ++ ys ≡ all → xs ≡ all
 whole xs ys all e h = sym (append-nil xs) ∙ ap (λ l. xs ++ l) (sym e) ∙ h
 
 pub loop-step-preserved : goal.loop-step-preserved

@@ -5,7 +5,7 @@ use Rattle.net_graph.specs.SeenSteps.{seen_step}
 use Rattle.net_graph.specs.Steps.{IsStep}
 use Rattle.svf_writer.specs.Fits.{HasLength}
 use Rattle.svf_writer.specs.SeenCommands.{seen_scan}
-use Rattle.svf_audit.specs.Kept.{seen_kept, AreKept}
+use Rattle.svf_audit.specs.LastParts.{seen_last, AreLastParts}
 use Rattle.svf_audit.proofs.Going.{kept_length}
 use Rattle.svf_audit.proofs.Scanning.{data_goes}
 use Rattle.svf_audit.proofs.auditor.Auditor.data_scan.Goals as goal
@@ -13,8 +13,8 @@ use Rattle.svf_audit.proofs.auditor.Auditor.data_scan.Goals as goal
 pub reach-requires-clause-tdo : goal.reach-requires-clause-tdo
 reach-requires-clause-tdo c =
     let a = c.args.self.now in
-    subst (λ n. HasLength n c.args.scan.now.tdo) (sym (kept_length c.kept_after-kept.result (seen_kept a.dr)
-    (seen_scan c.args.scan.now) c.kept_after-kept.ensures.kept)) c.requires.fits.tdo
+    subst (λ n. HasLength n c.args.scan.now.tdo) (sym (kept_length c.parts_after-kept.result (seen_last a.dr)
+    (seen_scan c.args.scan.now) c.parts_after-kept.ensures.kept)) c.requires.fits.tdo
 
 pub returns-clause-ok : goal.returns-clause-ok
 returns-clause-ok c =
@@ -26,8 +26,8 @@ returns-clause-ok c =
       sound = record {
         registers = d.sound;
         still = d.still;
-        ir = subst (λ y. AreKept y.ir) (sym o) c.requires.sound.ir;
-        dr = c.kept_after-kept.ensures.sound;
+        ir = subst (λ y. AreLastParts y.ir) (sym o) c.requires.sound.ir;
+        dr = c.parts_after-kept.ensures.sound;
         marks = subst (λ n. HaveMarks n z.marks) (sym d.net) d.marks;
         within = d.within;
         steps = subst (λ n. All (IsStep n) (map seen_step z.left.steps.now.items)) (sym d.net)
@@ -40,8 +40,8 @@ returns-clause-ok c =
           let e = d.ok rs n in (
             e.0,
             e.1,
-            e.2 ∙ data_goes a.registers.net.now a z c.kept_after-kept.result
+            e.2 ∙ data_goes a.registers.net.now a z c.parts_after-kept.result
                 (seen_scan c.args.scan.now) rs e.0 (ap (λ y. y.linked) o) (ap (λ y. y.ir) o)
-                (ap (λ y. y.scans) o) c.kept_after-kept.ensures.kept,
+                (ap (λ y. y.scans) o) c.parts_after-kept.ensures.kept,
           );
     }

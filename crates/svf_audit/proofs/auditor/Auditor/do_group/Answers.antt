@@ -4,7 +4,7 @@ use Rattle.svf_writer.specs.SeenCommands.{seen_scan}
 use Rattle.svf_audit.specs.declared.answer.Cause.TheVariants.{Write, Read}
 use Rattle.svf_audit.specs.Audit.{changed, does_reads, does_writes, need, note, scanned}
 use Rattle.svf_audit.specs.Auditing.{ok, state_of}
-use Rattle.svf_audit.specs.Kept.{seen_kept}
+use Rattle.svf_audit.specs.LastParts.{seen_last}
 use Rattle.svf_audit.specs.Left.{work_left}
 use Rattle.svf_audit.specs.Registers.{path_in}
 use Rattle.svf_audit.specs.Work.{due}
@@ -33,7 +33,7 @@ returns-in-Err-clause-err c =
     let x = seen_scan c.args.scan.now in
     let g : SeenGroup = seen_group c.in-Some.group.now in
     let d = due a.registers.holds (work_left a.left) in
-    let looks = kept_looks c.args.kept.now (seen_kept a.dr) x c.requires.next in
+    let looks = kept_looks c.args.kept.now (seen_last a.dr) x c.requires.next in
     λ rs.
     let s = state_of a rs in
     let next = ok (scanned net a.device.now s x a.registers.after (note s g) (drop 1 d)) in
@@ -50,7 +50,7 @@ returns-clause-ok c =
     let x = seen_scan c.args.scan.now in
     let g : SeenGroup = seen_group c.in-Some.group.now in
     let d = due a.registers.holds (work_left a.left) in
-    let looks = kept_looks c.args.kept.now (seen_kept a.dr) x c.requires.next in
+    let looks = kept_looks c.args.kept.now (seen_last a.dr) x c.requires.next in
     let left = c.go_on.ensures.work ∙ ap (drop 1) c.due_group.ensures.work in
     λ rs n.
     let s = state_of a rs in

@@ -13,8 +13,8 @@ returns-clause-sound c =
     record {
       registers = c.in_ok-registers.ensures.sound;
       still = c.in_ok-registers.ensures.still;
-      ir = c.nothing_kept.ensures.sound;
-      dr = c.nothing_kept-2.ensures.sound;
+      ir = c.no_last_parts.ensures.sound;
+      dr = c.no_last_parts-2.ensures.sound;
       marks = λ b h. c.in_ok-marks.ensures b (subst (λ n. IsBitOf n b) c.in_ok-registers.ensures.net h);
       within = c.all.ensures.within;
       steps = subst (λ n. All (IsStep n) (map seen_step c.all.result.steps.now.items))

@@ -4,7 +4,7 @@ use Rattle.std.specs.Option.{is_some}
 use Rattle.svf_writer.specs.SeenCommands.{seen_scan, SDR}
 use Rattle.svf_audit.specs.Audit.{pass, scan, step}
 use Rattle.svf_audit.specs.Auditing.{state_of, DidReach, DidScan, Stops}
-use Rattle.svf_audit.specs.Kept.{seen_kept}
+use Rattle.svf_audit.specs.LastParts.{seen_last}
 use Rattle.svf_audit.proofs.Going.{kept_looks, pass_compares, pass_goes}
 use Rattle.svf_audit.proofs.Scanning.{if_err, on_ok, stops_as}
 use Rattle.svf_audit.proofs.auditor.Auditor.reach.Goals as goal
@@ -19,7 +19,7 @@ returns-then-compares_some-clause-err c =
       | false ↦ pass a.registers.net.now a.device.now (state_of a rs) x
     ]) c.if-self.false
     ∙ pass_compares a.registers.net.now a.device.now (state_of a rs) x
-    (sym (ap (list_any is_some) (kept_looks c.args.kept.now (seen_kept a.dr) x c.requires.next))
+    (sym (ap (list_any is_some) (kept_looks c.args.kept.now (seen_last a.dr) x c.requires.next))
     ∙ sym c.compares_some.ensures ∙ c.if-compares_some.true)
 
 pub returns-clause-ok : goal.returns-clause-ok
@@ -34,7 +34,7 @@ returns-clause-ok c =
         | false ↦ pass a.registers.net.now a.device.now (state_of a rs) x
       ]) c.if-self.false
           ∙ pass_goes a.registers.net.now a.device.now (state_of a rs) x
-          (sym (ap (list_any is_some) (kept_looks c.args.kept.now (seen_kept a.dr) x c.requires.next))
+          (sym (ap (list_any is_some) (kept_looks c.args.kept.now (seen_last a.dr) x c.requires.next))
           ∙ sym c.compares_some.ensures ∙ c.if-compares_some.false),
     )
 

@@ -2,7 +2,7 @@ use Rattle.std.proofs.Common.{◌≡◌, ap, sym, ◌∙◌}
 use Rattle.svf_writer.specs.SeenCommands.{seen_scan}
 use Rattle.svf_audit.specs.Audit.{scanned}
 use Rattle.svf_audit.specs.Auditing.{ok, state_of}
-use Rattle.svf_audit.specs.Kept.{seen_kept}
+use Rattle.svf_audit.specs.LastParts.{seen_last}
 use Rattle.svf_audit.specs.Left.{work_left}
 use Rattle.svf_audit.proofs.Going.{kept_length, kept_tdi, scan_acts, scan_length, scan_select}
 use Rattle.svf_audit.proofs.Scanning.{act_as, after, after_as, chain_as, rows_as, scan_stops}
@@ -14,7 +14,7 @@ returns-then-kept-len-clause-err c =
     let r = c.find.new.self in
     let x = seen_scan c.args.scan.now in
     λ rs. scan_length a.registers.net.now a.device.now (state_of a rs) x
-    (λ e. c.if-kept-len.true (kept_length c.args.kept.now (seen_kept a.dr) x c.requires.next ∙ e
+    (λ e. c.if-kept-len.true (kept_length c.args.kept.now (seen_last a.dr) x c.requires.next ∙ e
     ∙ sym (chain_as a r x c.find.ensures.net c.find.ensures.holds) ∙ sym c.len.ensures))
 
 pub returns-then-not-have_rows-clause-err : goal.returns-then-not-have_rows-clause-err
@@ -25,8 +25,8 @@ returns-then-not-have_rows-clause-err c =
     let net = c.shift.ensures.net ∙ c.find.ensures.net in
     let holds = c.shift.ensures.holds ∙ c.find.ensures.holds in
     let aft = after_as a r x net holds c.shift.ensures.shifted
-    (c.shift.ensures.tdi ∙ kept_tdi c.args.kept.now (seen_kept a.dr) x c.requires.next) in
-    let len = sym (kept_length c.args.kept.now (seen_kept a.dr) x c.requires.next) ∙ c.if-kept-len.false
+    (c.shift.ensures.tdi ∙ kept_tdi c.args.kept.now (seen_last a.dr) x c.requires.next) in
+    let len = sym (kept_length c.args.kept.now (seen_last a.dr) x c.requires.next) ∙ c.if-kept-len.false
     ∙ c.len.ensures ∙ chain_as a c.find.new.self x c.find.ensures.net c.find.ensures.holds in
     λ rs. scan_select a.registers.net.now a.device.now (state_of a rs) x len
     (sym (rows_as a r x net holds aft) ∙ sym c.have_rows.ensures ∙ c.if-not-have_rows.true)
@@ -39,8 +39,8 @@ returns-in-Err-clause-err c =
     let net = c.shift.ensures.net ∙ c.find.ensures.net in
     let holds = c.shift.ensures.holds ∙ c.find.ensures.holds in
     let aft = after_as a r x net holds c.shift.ensures.shifted
-    (c.shift.ensures.tdi ∙ kept_tdi c.args.kept.now (seen_kept a.dr) x c.requires.next) in
-    let len = sym (kept_length c.args.kept.now (seen_kept a.dr) x c.requires.next) ∙ c.if-kept-len.false
+    (c.shift.ensures.tdi ∙ kept_tdi c.args.kept.now (seen_last a.dr) x c.requires.next) in
+    let len = sym (kept_length c.args.kept.now (seen_last a.dr) x c.requires.next) ∙ c.if-kept-len.false
     ∙ c.len.ensures ∙ chain_as a c.find.new.self x c.find.ensures.net c.find.ensures.holds in
     scan_stops a r x net holds aft len (sym (rows_as a r x net holds aft) ∙ sym c.have_rows.ensures
     ∙ c.if-not-have_rows.false) c.in-Err.halt c.in-Err.ensures.err
@@ -53,8 +53,8 @@ returns-clause-ok c =
     let net = c.shift.ensures.net ∙ c.find.ensures.net in
     let holds = c.shift.ensures.holds ∙ c.find.ensures.holds in
     let aft = after_as a r x net holds c.shift.ensures.shifted
-    (c.shift.ensures.tdi ∙ kept_tdi c.args.kept.now (seen_kept a.dr) x c.requires.next) in
-    let len = sym (kept_length c.args.kept.now (seen_kept a.dr) x c.requires.next) ∙ c.if-kept-len.false
+    (c.shift.ensures.tdi ∙ kept_tdi c.args.kept.now (seen_last a.dr) x c.requires.next) in
+    let len = sym (kept_length c.args.kept.now (seen_last a.dr) x c.requires.next) ∙ c.if-kept-len.false
     ∙ c.len.ensures ∙ chain_as a c.find.new.self x c.find.ensures.net c.find.ensures.holds in
     let rows = sym (rows_as a r x net holds aft) ∙ sym c.have_rows.ensures ∙ c.if-not-have_rows.false in
     let left = work_left c.act.new.self.left in

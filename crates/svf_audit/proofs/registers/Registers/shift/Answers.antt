@@ -2,7 +2,7 @@ use Rattle.std.proofs.Common.{◌≡◌, ◌++◌, refl, ap, sym, ◌∙◌, sub
 use Rattle.net_graph.specs.Chain.{chain, put_chain}
 use Rattle.net_graph.proofs.Chains.{put_chain-chain}
 use Rattle.svf_audit.specs.Audit.{bits_on}
-use Rattle.svf_audit.specs.Kept.{seen_tdi}
+use Rattle.svf_audit.specs.LastParts.{seen_tdi}
 use Rattle.svf_audit.specs.Registers.{differing, path_in, AreListed}
 use Rattle.svf_audit.specs.declared.registers.Registers.{Registers}
 use Rattle.svf_audit.proofs.Found.{path_few, shifted_all, turned_all}

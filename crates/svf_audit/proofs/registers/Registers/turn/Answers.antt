@@ -4,7 +4,7 @@ use Rattle.std.proofs.lemmas.List.{length-set, take_more_same, get_or_default}
 use Rattle.ij_bits.specs.BitLists.{same_bit}
 use Rattle.net_graph.specs.Chain.{put_chain}
 use Rattle.net_graph.specs.Held.{set_hold, IsHeld}
-use Rattle.svf_audit.specs.Kept.{seen_tdi}
+use Rattle.svf_audit.specs.LastParts.{seen_tdi}
 use Rattle.svf_audit.specs.Registers.{differing, path_in}
 use Rattle.svf_audit.proofs.Found.{turned_held, turned_long, turned_put}
 use Rattle.svf_audit.proofs.Looking.{alike, equal, unlike}

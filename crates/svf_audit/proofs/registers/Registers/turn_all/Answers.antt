@@ -1,5 +1,5 @@
 use Rattle.std.proofs.Common.{◌≡◌, ◌+◌, ◌*◌, min, ap, sym, ◌∙◌, subst, arith, length}
-use Rattle.svf_audit.specs.Kept.{seen_tdi}
+use Rattle.svf_audit.specs.LastParts.{seen_tdi}
 use Rattle.svf_audit.specs.Registers.{to_move, IsTurned}
 use Rattle.svf_audit.specs.declared.registers.Registers.{Registers}
 use Rattle.svf_audit.proofs.registers.Registers.turn_all.Goals as goal

@@ -1,5 +1,5 @@
 use Rattle.std.proofs.Common.{◌≡◌, ◌+◌, length}
-use Rattle.svf_audit.specs.Kept.{seen_tdi}
+use Rattle.svf_audit.specs.LastParts.{seen_tdi}
 use Rattle.svf_audit.specs.Registers.{to_move, IsTurned}
 use Rattle.svf_audit.proofs.registers.Registers.turn_some.Given as goal
 

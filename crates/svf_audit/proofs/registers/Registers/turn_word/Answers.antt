@@ -1,5 +1,5 @@
 use Rattle.std.proofs.Common.{◌≡◌, ◌++◌, ap, sym, ◌∙◌, arith, take, drop}
-use Rattle.svf_audit.specs.Kept.{seen_tdi}
+use Rattle.svf_audit.specs.LastParts.{seen_tdi}
 use Rattle.svf_audit.proofs.Found.{turned_long, turned_skip}
 use Rattle.svf_audit.proofs.Turning.{word_same, word_skips}
 use Rattle.svf_audit.proofs.registers.Registers.turn_word.Goals as goal

@@ -1,0 +1,14 @@
+use Rattle.std.proofs.Common.{◌≡◌, take, Bool}
+use Rattle.std.specs.Prelude.{◌||◌, flat_map}
+use Rattle.std.specs.List.{list_any}
+use Rattle.net_graph.specs.declared.branch.Branch.{Branch}
+use Rattle.pdl_targets.specs.SeenPlaces.{places_in}
+use Rattle.merge_order.specs.RowsAround.{HasLast}
+use Rattle.merge_order.proofs.around.RowsAround.add_read.Given as goal
+
+abbrev pub invariant-loop-read : goal.invariant-loop-read
+invariant-loop-read l = record {
+  rows : (test : Branch → Bool) → list_any test l.self.rows.items ≡ (list_any test l.fn.self.rows.items ||
+      list_any test (flat_map (λ r. places_in l.tree r.bit.reg) (take l.read-index l.reads)));
+  last : HasLast (places_in l.tree) l.self;
+}

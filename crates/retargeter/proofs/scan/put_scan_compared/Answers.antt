@@ -1,0 +1,40 @@
+use Rattle.ij_io.proofs.Adding.{adds_front, adds_then_part, at_refusal, adds_part_as}
+use Rattle.ij_io.specs.Words.{words_text}
+use Rattle.retargeter.proofs.Texts.{comparing_is}
+use Rattle.retargeter.proofs.scan.put_scan_compared.Goals as goal
+
+pub returns-in_err-put_words-clause-part : goal.returns-in_err-put_words-clause-part
+unfolding words_text
+returns-in_err-put_words-clause-part g c =
+    at_refusal _ (adds_part_as (comparing_is c.len.result c.args.tdi.now.items c.args.tdo.now.items
+    c.args.mask.now.items c.len.ensures) (adds_front _ c.in_err-put_words.ensures.part))
+
+pub returns-in_err-put_list-clause-part : goal.returns-in_err-put_list-clause-part
+unfolding words_text
+returns-in_err-put_list-clause-part g c =
+    at_refusal _ (adds_part_as (comparing_is c.len.result c.args.tdi.now.items
+    c.args.tdo.now.items c.args.mask.now.items c.len.ensures)
+    (adds_then_part c.in_ok-put_words.ensures.whole (adds_front _ c.in_err-put_list.ensures.part)))
+
+pub returns-in_err-put_list-2-clause-part : goal.returns-in_err-put_list-2-clause-part
+unfolding words_text
+returns-in_err-put_list-2-clause-part g c =
+    at_refusal _ (adds_part_as (comparing_is c.len.result c.args.tdi.now.items c.args.tdo.now.items
+    c.args.mask.now.items c.len.ensures) (adds_then_part c.in_ok-put_words.ensures.whole
+    (adds_then_part c.in_ok-put_list.ensures.whole (adds_front _ c.in_err-put_list-2.ensures.part))))
+
+pub returns-in_err-put_list-3-clause-part : goal.returns-in_err-put_list-3-clause-part
+unfolding words_text
+returns-in_err-put_list-3-clause-part g c =
+    at_refusal _ (adds_part_as (comparing_is c.len.result c.args.tdi.now.items
+    c.args.tdo.now.items c.args.mask.now.items c.len.ensures)
+    (adds_then_part c.in_ok-put_words.ensures.whole (adds_then_part c.in_ok-put_list.ensures.whole
+    (adds_then_part c.in_ok-put_list-2.ensures.whole (adds_front _ c.in_err-put_list-3.ensures.part)))))
+
+pub returns-in_err-write-clause-part : goal.returns-in_err-write-clause-part
+unfolding words_text
+returns-in_err-write-clause-part g c =
+    at_refusal _ (adds_part_as (comparing_is c.len.result c.args.tdi.now.items c.args.tdo.now.items
+    c.args.mask.now.items c.len.ensures) (adds_then_part c.in_ok-put_words.ensures.whole
+    (adds_then_part c.in_ok-put_list.ensures.whole (adds_then_part c.in_ok-put_list-2.ensures.whole
+    (adds_then_part c.in_ok-put_list-3.ensures.whole c.in_err-write.ensures.part)))))

@@ -1,8 +1,0 @@
-use Rattle.std.proofs.Common.{◌≡◌, ◌*◌, min, drop}
-use Rattle.ij_bits.specs.BitLists.{has_one}
-use Rattle.svf_audit.specs.Kept.{seen_kept}
-use Rattle.svf_audit.proofs.kept.compares_some.Given as goal
-
-abbrev pub invariant-loop-word : goal.invariant-loop-word
-invariant-loop-word l =
-    has_one (drop (min (64 * l.word) l.n) (seen_kept l.kept).mask) ≡ has_one (seen_kept l.kept).mask

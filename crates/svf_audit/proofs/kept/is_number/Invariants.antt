@@ -1,9 +1,0 @@
-use Rattle.std.proofs.Common.{◌≡◌, ◌-◌, drop}
-use Rattle.ij_bits.specs.BitLists.{bits_of, bits_eq}
-use Rattle.svf_audit.specs.Kept.{seen_tdi}
-use Rattle.svf_audit.proofs.kept.is_number.Given as goal
-
-abbrev pub invariant-loop-k : goal.invariant-loop-k
-invariant-loop-k l =
-    bits_eq (drop l.k (seen_tdi l.kept)) (bits_of (l.kept.len - l.k) l.rest)
-    ≡ bits_eq (seen_tdi l.kept) (bits_of l.kept.len l.n)
