@@ -11,25 +11,25 @@ use Rattle.icl_declarations.specs.Faults.{BadNumber}
 use Rattle.icl_declarations.specs.Expressions.{closed_number}
 
 -- the number of bits, an open one counting as 0
-abbrev pub worth : List (Option Bool) → ℕ
-worth bits = number_of (map (λ b. unwrap_or b false) bits)
+abbrev pub total : List (Option Bool) → ℕ
+total bits = number_of (map (λ b. unwrap_or b false) bits)
 
 abbrev pub are_closed : List (Option Bool) → Bool
 are_closed bits = list_all is_some bits
 
--- the higher bits are worth no more than all
-pub higher : (bits : List (Option Bool)) (k : ℕ) → worth (drop k bits) ≤ worth bits
+-- the higher bits say no more than all
+pub higher : (bits : List (Option Bool)) (k : ℕ) → total (drop k bits) ≤ total bits
 higher bits zero = omega arith
 higher [] (suc k) = omega arith
 higher (b ∷ bits) (suc k) = let rest = higher bits k in by_bit (unwrap_or b false) rest
   where
-    by_bit : (c : Bool) → worth (drop k bits) ≤ worth bits → worth (drop k bits) ≤ cond c 1 0 + 2 * worth bits
+    by_bit : (c : Bool) → total (drop k bits) ≤ total bits → total (drop k bits) ≤ cond c 1 0 + 2 * total bits
     by_bit true h = omega (arith, h)
     by_bit false h = omega (arith, h)
 
 -- one bit lower
-pub one_lower : (bits : List (Option Bool)) (k : ℕ) → k < length bits → worth (drop k bits)
-    ≡ cond (unwrap_or (get_or bits k (Some false)) false) 1 0 + 2 * worth (drop (suc k) bits)
+pub one_lower : (bits : List (Option Bool)) (k : ℕ) → k < length bits → total (drop k bits)
+    ≡ cond (unwrap_or (get_or bits k (Some false)) false) 1 0 + 2 * total (drop (suc k) bits)
 one_lower [] k lt = absurd (omega (arith, lt))
 one_lower (b ∷ bits) zero lt = refl
 one_lower (b ∷ bits) (suc k) lt = one_lower bits k (omega (arith, lt))
@@ -58,11 +58,11 @@ pub closed_open : (at : Place) (bits : List (Option Bool)) → are_closed bits �
 unfolding closed_number
 closed_open at bits e = rw e refl
 
-pub closed_big : (at : Place) (bits : List (Option Bool)) → 2 ^ 32 ≤ worth bits
+pub closed_big : (at : Place) (bits : List (Option Bool)) → 2 ^ 32 ≤ total bits
     → closed_number at bits ≡ Err (BadNumber at)
 unfolding closed_number
 closed_big at bits le =
-    let big : nat_lt (worth bits) (2 ^ 32) ≡ false = le-ltb (worth bits) (2 ^ 32) le in
+    let big : nat_lt (total bits) (2 ^ 32) ≡ false = le-ltb (total bits) (2 ^ 32) le in
     rw big (either (are_closed bits))
   where
     either : (c : Bool) → cond {A = Rattle.icl_declarations.specs.Faults.Answer ℕ} c (Err (BadNumber at))
@@ -70,11 +70,11 @@ closed_big at bits le =
     either true = refl
     either false = refl
 
-pub closed_small : (at : Place) (bits : List (Option Bool)) (n : ℕ) → are_closed bits ≡ true → n ≡ worth bits
+pub closed_small : (at : Place) (bits : List (Option Bool)) (n : ℕ) → are_closed bits ≡ true → n ≡ total bits
     → n < 2 ^ 32 → closed_number at bits ≡ Ok n
 unfolding closed_number
 closed_small at bits n e f lt =
-    let small : nat_lt (worth bits) (2 ^ 32) ≡ true = rw (sym f) (lt-ltb n (2 ^ 32) lt) in
+    let small : nat_lt (total bits) (2 ^ 32) ≡ true = rw (sym f) (lt-ltb n (2 ^ 32) lt) in
     rw (e, small) (ap (λ m. Ok m) (sym f))
 
 -- ---- rounds
@@ -86,27 +86,27 @@ met_open at bits k len bit e f = closed_open at bits (open_at bits (len - 1 - k)
 
 -- what is there is too big already
 pub met_big : (at : Place) (bits : List (Option Bool)) (k len n : ℕ) → length bits ≡ len → k < len
-    → n ≡ worth (drop (len - k) bits) → 2147483648 ≤ n → closed_number at bits ≡ Err (BadNumber at)
+    → n ≡ total (drop (len - k) bits) → 2147483648 ≤ n → closed_number at bits ≡ Err (BadNumber at)
 met_big at bits k len n long lt e le =
     let i = len - 1 - k in
     let next : suc i ≡ len - k = omega (arith, lt) in
     let here = one_lower bits i (omega (arith, lt, long)) in
-    let up : n ≡ worth (drop (suc i) bits) = e ∙ ap (λ j. worth (drop j bits)) (sym next) in
+    let up : n ≡ total (drop (suc i) bits) = e ∙ ap (λ j. total (drop j bits)) (sym next) in
     let all = higher bits i in
     closed_big at bits (omega (arith, here, up, all, le))
 
 -- one bit more
-pub round_worth : (bits : List (Option Bool)) (k len n : ℕ) (bit : Bool) → length bits ≡ len → k < len
-    → n ≡ worth (drop (len - k) bits) → Some bit ≡ get_or bits (len - 1 - k) (Some false)
-    → 2 * n + cond bit 1 0 ≡ worth (drop (len - (k + 1)) bits)
-round_worth bits k len n bit long lt e f =
+pub round_number : (bits : List (Option Bool)) (k len n : ℕ) (bit : Bool) → length bits ≡ len → k < len
+    → n ≡ total (drop (len - k) bits) → Some bit ≡ get_or bits (len - 1 - k) (Some false)
+    → 2 * n + cond bit 1 0 ≡ total (drop (len - (k + 1)) bits)
+round_number bits k len n bit long lt e f =
     let i = len - 1 - k in
     let next : suc i ≡ len - k = omega (arith, lt) in
     let same : len - (k + 1) ≡ i = omega arith in
-    let here : worth (drop i bits) ≡ cond bit 1 0 + 2 * worth (drop (suc i) bits) =
+    let here : total (drop i bits) ≡ cond bit 1 0 + 2 * total (drop (suc i) bits) =
     one_lower bits i (omega (arith, lt, long))
-    ∙ ap (λ (o : Option Bool). cond (unwrap_or o false) 1 0 + 2 * worth (drop (suc i) bits)) (sym f) in
-    let up : n ≡ worth (drop (suc i) bits) = e ∙ ap (λ j. worth (drop j bits)) (sym next) in
+    ∙ ap (λ (o : Option Bool). cond (unwrap_or o false) 1 0 + 2 * total (drop (suc i) bits)) (sym f) in
+    let up : n ≡ total (drop (suc i) bits) = e ∙ ap (λ j. total (drop j bits)) (sym next) in
     rw same (omega (arith, here, up))
 
 pub round_closed : (bits : List (Option Bool)) (k len : ℕ) (bit : Bool) → length bits ≡ len → k < len
@@ -133,8 +133,8 @@ at_start bits len e = let z : len - 0 ≡ len = omega arith in rw z (drop_all bi
 
 -- all is read
 pub all_read : (at : Place) (bits : List (Option Bool)) (k len n : ℕ) → len ≤ k → n < 2 ^ 32
-    → are_closed (drop (len - k) bits) ≡ true → n ≡ worth (drop (len - k) bits) → closed_number at bits ≡ Ok n
+    → are_closed (drop (len - k) bits) ≡ true → n ≡ total (drop (len - k) bits) → closed_number at bits ≡ Ok n
 all_read at bits k len n le lt closed value =
     let z : len - k ≡ 0 = omega (arith, le) in
     closed_small at bits n (ap (λ j. are_closed (drop j bits)) (sym z) ∙ closed)
-    (value ∙ ap (λ j. worth (drop j bits)) z) lt
+    (value ∙ ap (λ j. total (drop j bits)) z) lt

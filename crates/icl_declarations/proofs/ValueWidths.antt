@@ -5,7 +5,7 @@ use Rattle.std.proofs.lemmas.List.FromFn.{length-map-range_with_len}
 use Rattle.ij_text.specs.declared.Place.{Place}
 use Rattle.icl_lexer.specs.Values.{SeenExpr}
 use Rattle.icl_declarations.specs.Faults.{Answer, ◌>>=◌, each, WidthDiffers}
-use Rattle.icl_declarations.specs.Values.{OpenBits, Worth, AnInteger, SomeBits, AText, Params, integer_bits}
+use Rattle.icl_declarations.specs.Values.{OpenBits, AValue, AnInteger, SomeBits, AText, Params, integer_bits}
 use Rattle.icl_declarations.specs.Sized.{fits, in_width}
 use Rattle.icl_declarations.specs.Expressions.{evaluate, place_in}
 use Rattle.icl_declarations.specs.Widths.{free_in, sized_in, lone_in, one_part, joined, parts_value, value_in}
@@ -32,7 +32,7 @@ sized_wide holder width bits = by_test (nat_lt width (length bits))
     by_test true = tt
     by_test false = wide width bits
 
-lone_wide : (holder at : Place) (width : ℕ) (worth : Worth) → IsWide width (lone_in holder at width worth)
+lone_wide : (holder at : Place) (width : ℕ) (value : AValue) → IsWide width (lone_in holder at width value)
 lone_wide holder at width (AnInteger n) = free_wide holder width (integer_bits n)
 lone_wide holder at width (SomeBits false bits) = free_wide holder width bits
 lone_wide holder at width (SomeBits true bits) = sized_wide holder width bits
@@ -53,7 +53,7 @@ value_is_wide : (ps : Params) (holder : Place) (width : ℕ) (es : List SeenExpr
 unfolding value_in
 value_is_wide ps holder width [] = parts_wide ps holder width []
 value_is_wide ps holder width (e ∷ []) = then_wide width (evaluate ps holder e)
-    (lone_in holder (place_in holder e) width) (λ worth. lone_wide holder (place_in holder e) width worth)
+    (lone_in holder (place_in holder e) width) (λ value. lone_wide holder (place_in holder e) width value)
 value_is_wide ps holder width (e ∷ f ∷ es) = parts_wide ps holder width (e ∷ f ∷ es)
 
 pub value_wide : (ps : Params) (holder : Place) (width : ℕ) (es : List SeenExpr) (bits : OpenBits)

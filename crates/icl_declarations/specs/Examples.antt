@@ -1,4 +1,4 @@
--- Numbers and expressions, and what they are worth.
+-- Numbers and expressions, and their values.
 use Rattle.std.specs.Prelude.{◌≡◌, true, false, [], ◌∷◌, Some, None, Ok, Err, codes, refl}
 use Rattle.ij_text.specs.declared.Place.{Place}
 use Rattle.icl_lexer.specs.declared.tree.Sign.TheVariants.{Plus, Minus, Times, Over}
@@ -19,8 +19,8 @@ sign = record { line = 1; col = 9 }
 
 -- W is 8, and T a text
 abbrev pub given : Params
-given = record { name = codes "W"; worth = AnInteger 8 }
-    ∷ record { name = codes "T"; worth = AText (codes "a") } ∷ []
+given = record { name = codes "W"; value = AnInteger 8 }
+    ∷ record { name = codes "T"; value = AText (codes "a") } ∷ []
 
 abbrev pub w : SeenExpr
 w = AParam sign (codes "W")

@@ -1,4 +1,4 @@
--- What an expression is worth (IEEE 1687-2014: numbers, parameters and operators), or the first fault in it.
+-- The value of an expression (IEEE 1687-2014: numbers, parameters and operators), or the first fault in it.
 -- A fault of a parameter or of an operator is at that token, and every other one at what holds the
 -- expression.
 use Rattle.std.specs.Prelude.{ℕ, ◌+◌, ◌-◌, ◌*◌, ◌/◌, ◌%◌, ◌==◌, ◌^◌, Bool, true, false, ◌&&◌, cond, nat_lt}
@@ -12,7 +12,7 @@ use Rattle.icl_lexer.specs.declared.tree.Sign.{Sign}
 use Rattle.icl_lexer.specs.declared.tree.Sign.TheVariants.{Plus, Minus, Times, Over, Rest}
 use Rattle.icl_lexer.specs.Values.{SeenExpr, ADecimal, ASized, AQuoted, AParam, AnOp}
 use Rattle.icl_declarations.specs.Faults.{Answer, ◌>>=◌, NoParameter, DivideByZero, BadNumber, WrongKind}
-use Rattle.icl_declarations.specs.Values.{OpenBits, Worth, AnInteger, SomeBits, AText, Params, worth_of}
+use Rattle.icl_declarations.specs.Values.{OpenBits, AValue, AnInteger, SomeBits, AText, Params, param_value}
 use Rattle.icl_declarations.specs.Sized.{front, after, plain, bits_after, within_size, at_most_4096}
 
 -- ---- integers
@@ -26,19 +26,19 @@ unfoldable pub closed_number : Place → OpenBits → Answer ℕ
 closed_number at bits = cond (list_all is_some bits)
     (small at (number_of (map (λ b. unwrap_or b false) bits))) (Err (BadNumber at))
 
-abbrev pub as_integer : Place → Worth → Answer ℕ
+abbrev pub as_integer : Place → AValue → Answer ℕ
 as_integer at (AnInteger n) = Ok n
 as_integer at (SomeBits sized bits) = closed_number at bits
 as_integer at (AText text) = Err (WrongKind at)
 
 -- ---- parameters
 
-abbrev pub known : Place → List ℕ → Option Worth → Answer Worth
+abbrev pub known : Place → List ℕ → Option AValue → Answer AValue
 known at name None = Err (NoParameter at name)
-known at name (Some worth) = Ok worth
+known at name (Some value) = Ok value
 
-abbrev pub parameter : Params → Place → List ℕ → Answer Worth
-parameter ps at name = known at name (worth_of ps name)
+abbrev pub parameter : Params → Place → List ℕ → Answer AValue
+parameter ps at name = known at name (param_value ps name)
 
 -- ---- sized numbers
 
@@ -54,16 +54,16 @@ unfoldable pub size_of : Params → Place → List ℕ → Answer (Option ℕ)
 size_of ps at [] = Ok None
 size_of ps at (b ∷ bs) = cond (b == 36) (parameter_size ps at bs) (size at (decimal_from 0 (b ∷ bs)))
 
-abbrev pub told : Place → Bool → Option OpenBits → Answer Worth
+abbrev pub told : Place → Bool → Option OpenBits → Answer AValue
 told at sized None = Err (BadNumber at)
 told at sized (Some bits) = Ok (SomeBits sized bits)
 
-abbrev pub number_of_size : Place → Option OpenBits → Option ℕ → Answer Worth
+abbrev pub number_of_size : Place → Option OpenBits → Option ℕ → Answer AValue
 number_of_size at None n = Err (BadNumber at)
 number_of_size at (Some bits) None = told at false (at_most_4096 bits)
 number_of_size at (Some bits) (Some n) = told at true (within_size n bits)
 
-unfoldable pub sized_number : Params → Place → List ℕ → Answer Worth
+unfoldable pub sized_number : Params → Place → List ℕ → Answer AValue
 sized_number ps at text = size_of ps at (front text) >>= number_of_size at (bits_after (plain (after text)))
 
 -- ---- operators
@@ -91,7 +91,7 @@ place_in holder (AQuoted text) = holder
 place_in holder (AParam at name) = at
 place_in holder (AnOp at sign a b) = holder
 
-unfoldable pub evaluate : Params → Place → SeenExpr → Answer Worth
+unfoldable pub evaluate : Params → Place → SeenExpr → Answer AValue
 evaluate ps holder (ADecimal n) = Ok (AnInteger n)
 evaluate ps holder (ASized text) = sized_number ps holder text
 evaluate ps holder (AQuoted text) = Ok (AText text)

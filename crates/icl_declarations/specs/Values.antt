@@ -1,4 +1,4 @@
--- What parameters and expressions are worth (IEEE 1687-2014: Parameter, LocalParameter, sized numbers).
+-- Values of parameters and expressions (IEEE 1687-2014: Parameter, LocalParameter, sized numbers).
 use Rattle.std.specs.Prelude.{ℕ, Bool, List, [], ◌∷◌, map, cond, Option, Some, None}
 use Rattle.std.specs.Str.{bytes_eq}
 use Rattle.ij_bits.specs.BitLists.{bits_of}
@@ -11,12 +11,12 @@ abbrev pub OpenBits : Type 0
 OpenBits = List (Option Bool)
 
 -- an integer; a number in bits, with a size or without; a text
-pub data Worth : Type 0 where
-  AnInteger : ℕ → Worth
-  SomeBits : Bool → OpenBits → Worth
-  AText : List ℕ → Worth
+pub data AValue : Type 0 where
+  AnInteger : ℕ → AValue
+  SomeBits : Bool → OpenBits → AValue
+  AText : List ℕ → AValue
 
-abbrev pub seen_value : Value → Worth
+abbrev pub seen_value : Value → AValue
 seen_value (Integer n) = AnInteger n
 seen_value (Bits sized t) = SomeBits sized (tern_bits t)
 seen_value (Text text) = AText text.items
@@ -33,18 +33,18 @@ integer_bits n = number_bits 32 n
 
 pub record Given : Type 0 where
   pub name : List ℕ
-  pub worth : Worth
+  pub value : AValue
 
 abbrev pub Params : Type 0
 Params = List Given
 
 -- the value of a name
-abbrev pub worth_of : Params → List ℕ → Option Worth
-worth_of [] name = None
-worth_of (p ∷ ps) name = cond (bytes_eq name p.name) (Some p.worth) (worth_of ps name)
+abbrev pub param_value : Params → List ℕ → Option AValue
+param_value [] name = None
+param_value (p ∷ ps) name = cond (bytes_eq name p.name) (Some p.value) (param_value ps name)
 
 -- a value in place of one of the same name, or after the others
-abbrev pub with_worth : Params → List ℕ → Worth → Params
-with_worth [] name worth = record { name = name; worth = worth } ∷ []
-with_worth (p ∷ ps) name worth =
-    cond (bytes_eq name p.name) (record p { worth = worth } ∷ ps) (p ∷ with_worth ps name worth)
+abbrev pub with_param : Params → List ℕ → AValue → Params
+with_param [] name value = record { name = name; value = value } ∷ []
+with_param (p ∷ ps) name value =
+    cond (bytes_eq name p.name) (record p { value = value } ∷ ps) (p ∷ with_param ps name value)

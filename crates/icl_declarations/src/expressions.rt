@@ -41,7 +41,7 @@ pub fn place_in(e: &Expr, holder: Place) -> Place
     }
 }
 
-/// What an expression is worth, which is in `holder`.
+/// The value of an expression, which is in `holder`.
 #[tactic(auto, unfolding(crate::specs::Expressions::evaluate))]
 pub fn evaluate(
     alloc: Global,

@@ -1,7 +1,7 @@
 // Parameters.
 ghost use Rattle.std.specs.Prelude.{◌≡◌, [], OnOk, OnErr};
 ghost use Rattle.std.specs.Option.{option_map};
-ghost use Rattle.icl_declarations.specs.Values.{seen_value, worth_of, with_worth};
+ghost use Rattle.icl_declarations.specs.Values.{seen_value, param_value, with_param};
 ghost use Rattle.icl_declarations.specs.Tables.{seen_table};
 
 use crate::value::Value;
@@ -27,7 +27,7 @@ impl ParamTable {
 
     /// The value of a parameter, if there is one of this name. Takes no memory.
     pub fn find(&self, name: &[u8]) -> Option<&Value>
-        ensures { option_map (λ v. seen_value v.now) result ≡ worth_of (seen_table self.now) name.now }
+        ensures { option_map (λ v. seen_value v.now) result ≡ param_value (seen_table self.now) name.now }
     {
         self.table.get(name)
     }
@@ -36,7 +36,7 @@ impl ParamTable {
     /// were.
     pub fn insert(&mut self, alloc: Global, name: &[u8], value: Value) -> Result<(), OutOfMemory>
         ensures ok { OnOk result (seen_table self.new
-            ≡ with_worth (seen_table self.old) name.now (seen_value value)) }
+            ≡ with_param (seen_table self.old) name.now (seen_value value)) }
         ensures err { OnErr result (seen_table self.new ≡ seen_table self.old) }
     {
         let key = Vec::from_slice(alloc, name)?;

@@ -136,7 +136,7 @@ fn open_digits(alloc: Global, text: &[u8]) -> Result<Option<Tern>, ElabFault>
     }
 }
 
-/// What a sized number is worth.
+/// The value of a sized number.
 #[tactic(auto, unfolding(crate::specs::Expressions::sized_number))]
 pub(crate) fn sized_number(
     alloc: Global,

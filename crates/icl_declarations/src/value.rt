@@ -7,7 +7,7 @@ use ij_bits::{OutOfMemory, Tern};
 use ij_text::{Text, name_of};
 use std::alloc::Global;
 
-/// What a parameter or an expression is worth.
+/// The value of a parameter or an expression.
 #[derive(Drop)]
 pub enum Value {
     /// An integer, which counts as a number without a size.

@@ -18,7 +18,7 @@ use Rattle.icl_elab.specs.WellFormed.{HasRows}
 use Rattle.icl_elab.proofs.Wiring.{each_paired, all_true}
 use Rattle.icl_elab.proofs.PartKinds.{IsOfKind, part_kind, bound_kind}
 use Rattle.icl_elab.proofs.PartWords.{HasInner, AreWordsApart, part_worded, part_rows, bound_rows}
-use Rattle.icl_elab.proofs.Worths.{AreWorths}
+use Rattle.icl_elab.proofs.SoundValues.{AreSound}
 
 -- a part is its member's: its name, its width and its kind
 pub record IsPartOfMember (f : Frame) (m : Member) (p : PartOf) : Type 0 where
@@ -26,7 +26,7 @@ pub record IsPartOfMember (f : Frame) (m : Member) (p : PartOf) : Type 0 where
   pub wide : part_width p ≡ width m.bounds
   pub kind : IsOfKind m.item.what p.role
   pub words : HasInner f → AreWordsApart p.words
-  pub rows : AreWorths f.params → IsWrittenWhat m.item.what → HasRows p.role
+  pub rows : AreSound f.params → IsWrittenWhat m.item.what → HasRows p.role
 
 -- a cell is its frame's
 pub record IsCellOfFrame (f : Frame) (c : CellOf) : Type 0 where
@@ -63,7 +63,7 @@ module _ (frames : List Frame) where
         wide = refl;
         kind = bound_kind bs m m.item.what f.role kind;
         words = λ inner. part_worded frames here inner m f h;
-        rows = λ worths w. bound_rows bs m f.role (part_rows frames here worths m f w kind.1 h);
+        rows = λ sound w. bound_rows bs m f.role (part_rows frames here sound m f w kind.1 h);
       }
 
   parts_are : (here : Here) (bs : List Bound) (ms : List Member) (fs : List Found)

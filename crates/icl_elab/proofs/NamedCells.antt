@@ -30,7 +30,7 @@ use Rattle.icl_elab.proofs.CountedCells.{count_cell, data_part, instrument_same,
 use Rattle.icl_elab.proofs.CountedCells.{few_of_frames}
 use Rattle.icl_elab.proofs.PartWords.{HasInner}
 use Rattle.icl_elab.proofs.Wiring.{hierarchies_are_wired}
-use Rattle.icl_elab.proofs.Worths.{AreWorths, frames_worths}
+use Rattle.icl_elab.proofs.SoundValues.{AreSound, frames_sound}
 use Rattle.ij_bits.proofs.Contained.{later_in}
 use Rattle.ij_bits.proofs.Everywhere.{all_kept}
 use Rattle.ij_bits.proofs.Lists.{filter_twice}
@@ -162,15 +162,15 @@ few_ports f c h i e =
 -- a written item's part, in a module whose names differ
 parts_named : (f : Frame) (n : ℕ) (items : List SeenItem) (bs : List Bounds) (ps : List PartOf)
     → length bs ≡ length items
-    → HasInner f → AreWorths f.params
+    → HasInner f → AreSound f.params
     → AllByRecursion IsWrittenItem items → AllByRecursion (λ b. width b ≤ 65536) bs
     → Paired (IsPartOfMember f) (members_from n items bs) ps → AllByRecursion IsPartNamed ps
-parts_named f n [] [] [] l inner worths w few h = tt
-parts_named f n [] [] (p ∷ ps) l inner worths w few h = absurd h
-parts_named f n [] (b ∷ bs) ps l inner worths w few h = absurd (omega (arith, l))
-parts_named f n (item ∷ items) [] ps l inner worths w few h = absurd (omega (arith, l))
-parts_named f n (item ∷ items) (b ∷ bs) [] l inner worths w few h = absurd h
-parts_named f n (item ∷ items) (b ∷ bs) (p ∷ ps) l inner worths w few h =
+parts_named f n [] [] [] l inner sound w few h = tt
+parts_named f n [] [] (p ∷ ps) l inner sound w few h = absurd h
+parts_named f n [] (b ∷ bs) ps l inner sound w few h = absurd (omega (arith, l))
+parts_named f n (item ∷ items) [] ps l inner sound w few h = absurd (omega (arith, l))
+parts_named f n (item ∷ items) (b ∷ bs) [] l inner sound w few h = absurd h
+parts_named f n (item ∷ items) (b ∷ bs) (p ∷ ps) l inner sound w few h =
     let i = h.0 in
     let own = w.0 in
     let first : IsPartNamed p =
@@ -178,21 +178,21 @@ parts_named f n (item ∷ items) (b ∷ bs) (p ∷ ps) l inner worths w few h =
       name = subst (λ z. IsTrue (is_name z)) (sym i.name) own.name;
       bits_within_limit =
           subst (λ k. k ≤ 65536) (sym i.wide) few.0;
-      rows = i.rows worths own.what;
+      rows = i.rows sound own.what;
       words = i.words inner;
     } in
-    (first, parts_named f (suc n) items bs ps (omega (arith, l)) inner worths w.1 few.1 h.1)
+    (first, parts_named f (suc n) items bs ps (omega (arith, l)) inner sound w.1 few.1 h.1)
 
 -- ---- cells
 
 cell_is : (f : Frame) (c : CellOf) → IsFrame f → IsWrittenFrame f
-    → AreWorths f.params → IsCellOfFrame f c → IsCell c
-cell_is f c h w worths i =
+    → AreSound f.params → IsCellOfFrame f c → IsCell c
+cell_is f c h w sound i =
     let block = w.block in
     record {
       name = subst (λ (o : Option ℕ). IfSome o (λ parent. IsTrue (is_name c.name))) (sym i.parent)
           (subst (λ z. IfSome f.parent (λ parent. IsTrue (is_name z))) (sym i.name) w.name);
-      parts = parts_named f 0 (parts_of f.block) f.bounds c.parts h.all h.inner worths
+      parts = parts_named f 0 (parts_of f.block) f.bounds c.parts h.all h.inner sound
           (all_kept IsWrittenItem (λ item. is_part item.what) f.block.items block.items) h.widths i.parts;
       thing_names = thing_names f c h i;
       ports = few_ports f c h i;
@@ -200,13 +200,13 @@ cell_is f c h w worths i =
 
 cells_are : (frames : List Frame) (cells : List CellOf)
     → AllByRecursion IsFrame frames → AllByRecursion IsWrittenFrame frames
-    → AllByRecursion (λ (f : Frame). AreWorths f.params) frames
+    → AllByRecursion (λ (f : Frame). AreSound f.params) frames
     → Paired IsCellOfFrame frames cells → AllByRecursion IsCell cells
-cells_are [] [] h w worths p = tt
-cells_are [] (c ∷ cells) h w worths p = absurd p
-cells_are (f ∷ frames) [] h w worths p = absurd p
-cells_are (f ∷ frames) (c ∷ cells) h w worths p =
-    (cell_is f c h.0 w.0 worths.0 p.0, cells_are frames cells h.1 w.1 worths.1 p.1)
+cells_are [] [] h w sound p = tt
+cells_are [] (c ∷ cells) h w sound p = absurd p
+cells_are (f ∷ frames) [] h w sound p = absurd p
+cells_are (f ∷ frames) (c ∷ cells) h w sound p =
+    (cell_is f c h.0 w.0 sound.0 p.0, cells_are frames cells h.1 w.1 sound.1 p.1)
 
 -- ---- hierarchies
 
@@ -233,7 +233,7 @@ hierarchies_are_well_formed blocks top cells w h =
       siblings = tree.siblings;
       cells_are = cells_are a.frames cells (frames_are_declared blocks top a.frames a.entered)
           (frames_are_written blocks top a.frames w a.entered)
-          (frames_worths blocks top a.frames a.entered) a.paired;
+          (frames_sound blocks top a.frames a.entered) a.paired;
       few_cells = few.few_cells;
       few_levels = tree.few_levels;
       bits_within_limit = few.bits_within_limit;

@@ -17,7 +17,7 @@ use Rattle.icl_lexer.specs.Values.{ARegister, AMux, AChild, AnAlias, SomeWords, 
 use Rattle.icl_lexer.specs.Values.{ALink, AnAttribute, SeenItem}
 use Rattle.icl_declarations.specs.Faults.{Answer, ◌>>=◌, refuse_if, each, over, BadRange, WrongKind}
 use Rattle.icl_declarations.specs.Faults.{RowsOverlap}
-use Rattle.icl_declarations.specs.Values.{OpenBits, Worth, AnInteger, SomeBits, AText, Params}
+use Rattle.icl_declarations.specs.Values.{OpenBits, AValue, AnInteger, SomeBits, AText, Params}
 use Rattle.icl_declarations.specs.Expressions.{evaluate, place_in}
 use Rattle.icl_declarations.specs.Widths.{value_in, joined}
 use Rattle.icl_declarations.specs.declared.ranges.Bounds.{Bounds}
@@ -44,7 +44,7 @@ use Rattle.icl_elab.specs.FoundParts.{nothing_said, alias_prop, instance_found, 
 use Rattle.icl_elab.specs.FoundParts.{found_at, part_found}
 use Rattle.icl_elab.specs.Hierarchy.{with_bound}
 use Rattle.icl_elab.specs.WellFormed.{is_mux, HasRows}
-use Rattle.icl_elab.proofs.Worths.{IsWorth, AreWorths, evaluate_worth}
+use Rattle.icl_elab.proofs.SoundValues.{IsSound, AreSound, evaluate_sound}
 
 -- ---- lists
 
@@ -246,8 +246,8 @@ named_long ps b (Some r) s h =
 free_none : (holder at : Place) (b bits : OpenBits) → free_number holder at None b ≡ Ok bits → ⊥
 free_none holder at b bits h = cc
 
-module _ (frames : List Frame) (here : Here) (worths : AreWorths here.frame.params) where
-  number_long : (holder at : Place) (w : Worth) (bits : OpenBits) → IsWorth w
+module _ (frames : List Frame) (here : Here) (sound : AreSound here.frame.params) where
+  number_long : (holder at : Place) (w : AValue) (bits : OpenBits) → IsSound w
       → number_bits holder at None w ≡ Ok bits
       → 1 ≤ length bits
   number_long holder at (AnInteger n) bits g h = absurd cc
@@ -281,7 +281,7 @@ module _ (frames : List Frame) (here : Here) (worths : AreWorths here.frame.para
           let a = both (evaluate here.frame.params s.at e) _ rs g in
           let b = both (number_bits holder (place_in s.at e) None a.first) _ rs a.then' in
           let long = number_long holder (place_in s.at e) a.first b.first
-          (evaluate_worth here.frame.params s.at e a.first worths a.is) b.is in
+          (evaluate_sound here.frame.params s.at e a.first sound a.is) b.is in
           subst (λ (l : List Ref). 1 ≤ length l) (ok_is (constants s.inverted b.first) rs b.then')
           (subst (λ n. 1 ≤ n) (sym (length-map b.first _)) long)
       by_meant (APath path range) g = path_long s.at s.inverted path range rs g

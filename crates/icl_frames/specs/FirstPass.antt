@@ -11,7 +11,7 @@ use Rattle.icl_lexer.specs.Values.{SeenExpr, SeenBind, ABoundPort, ABoundParamet
 use Rattle.icl_lexer.specs.Values.{AChild, AParameter, SeenItem, SeenModule}
 use Rattle.icl_declarations.specs.Faults.{Answer, ◌>>=◌, refuse_if, over, NoModule, NoName, DoubleName}
 use Rattle.icl_declarations.specs.Faults.{InstanceLoop, Limit}
-use Rattle.icl_declarations.specs.Values.{Worth, Params, worth_of, with_worth}
+use Rattle.icl_declarations.specs.Values.{AValue, Params, param_value, with_param}
 use Rattle.icl_declarations.specs.Expressions.{evaluate}
 use Rattle.icl_declarations.specs.declared.counts.Counts.{Counts}
 use Rattle.icl_declarations.specs.Parts.{is_part, range_in, block_named, is_open, is_instrument}
@@ -37,16 +37,16 @@ pub record Request : Type 0 where
 -- ---- parameters
 
 -- a parameter that its instance binds has that value, and every other one its own
-abbrev pub worth_in : Params → Params → Place → List ℕ → SeenExpr → Option Worth → Answer Worth
-worth_in given ps at name e None = evaluate ps at e
-worth_in given ps at name e (Some worth) = Ok worth
+abbrev pub param_in : Params → Params → Place → List ℕ → SeenExpr → Option AValue → Answer AValue
+param_in given ps at name e None = evaluate ps at e
+param_in given ps at name e (Some value) = Ok value
 
-abbrev pub bound_worth : Params → Bool → List ℕ → Option Worth
-bound_worth given local name = cond local None (worth_of given name)
+abbrev pub bound_value : Params → Bool → List ℕ → Option AValue
+bound_value given local name = cond local None (param_value given name)
 
 abbrev pub with_parameter : Params → Params → SeenItem → SeenWhat → Answer Params
-with_parameter given ps item (AParameter local e) = worth_in given ps item.at item.name e
-    (bound_worth given local item.name) >>= λ worth. Ok (with_worth ps item.name worth)
+with_parameter given ps item (AParameter local e) = param_in given ps item.at item.name e
+    (bound_value given local item.name) >>= λ value. Ok (with_param ps item.name value)
 with_parameter given ps item what = Ok ps
 
 -- a module's parameters are evaluated in the order of the text, each after those above it
@@ -58,9 +58,9 @@ parameters given block = over (λ ps item. with_parameter given ps item item.wha
 abbrev pub with_binding : Params → SeenModule → Params → SeenBind → Answer Params
 with_binding ps block given (ABoundParameter at name e) = do
   open' ← refuse_if (not (is_open block name)) (NoName at name)
-  once ← refuse_if (is_some (worth_of given name)) (DoubleName at name)
-  worth ← evaluate ps at e
-  Ok (with_worth given name worth)
+  once ← refuse_if (is_some (param_value given name)) (DoubleName at name)
+  value ← evaluate ps at e
+  Ok (with_param given name value)
 with_binding ps block given (ABoundPort at name range sigs) = Ok given
 with_binding ps block given (ABoundAttribute name value) = Ok given
 

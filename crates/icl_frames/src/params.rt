@@ -6,7 +6,7 @@ ghost use Rattle.icl_lexer.specs.Views.{seen_expr, seen_what, seen_item};
 ghost use Rattle.icl_declarations.specs.Faults.{Gives, over};
 ghost use Rattle.icl_declarations.specs.Values.{seen_value};
 ghost use Rattle.icl_declarations.specs.Tables.{seen_table};
-ghost use Rattle.icl_frames.specs.FirstPass.{bound_worth, worth_in, with_parameter};
+ghost use Rattle.icl_frames.specs.FirstPass.{bound_value, param_in, with_parameter};
 
 use crate::ElabFault;
 use icl_declarations::{ParamTable, Value, evaluate};
@@ -17,7 +17,7 @@ use std::alloc::Global;
 /// The value that a parameter's instance binds it to, if it does and the parameter isn't local.
 fn bound_value<'a>(given: &'a ParamTable, local: bool, name: &SmallText) -> Option<&'a Value>
     ensures { option_map (λ v. seen_value v.now) result
-        ≡ bound_worth (seen_table given.now) local name.now.items }
+        ≡ bound_value (seen_table given.now) local name.now.items }
 {
     if local {
         None
@@ -36,8 +36,8 @@ fn value_of(
     local: bool,
     e: &Expr,
 ) -> Result<Value, ElabFault>
-    ensures { Gives seen_value result (worth_in (seen_table given.now) (seen_table params.now) at
-        name.now.items (seen_expr e.now) (bound_worth (seen_table given.now) local name.now.items)) }
+    ensures { Gives seen_value result (param_in (seen_table given.now) (seen_table params.now) at
+        name.now.items (seen_expr e.now) (bound_value (seen_table given.now) local name.now.items)) }
 {
     match bound_value(given, local, name) {
         Some(value) => {

@@ -9,7 +9,7 @@ use Rattle.ij_text.specs.declared.Place.{Place}
 use Rattle.icl_lexer.specs.Values.{SeenRange, SeenSigWhat, ANumber, APath, SeenSig, SeenWhat}
 use Rattle.icl_declarations.specs.Faults.{Answer, ◌>>=◌, refuse_if, each, over, BadNumber, WidthDiffers}
 use Rattle.icl_declarations.specs.Faults.{WrongKind}
-use Rattle.icl_declarations.specs.Values.{OpenBits, Worth, AnInteger, SomeBits, AText, Params, integer_bits}
+use Rattle.icl_declarations.specs.Values.{OpenBits, AValue, AnInteger, SomeBits, AText, Params, integer_bits}
 use Rattle.icl_declarations.specs.Expressions.{evaluate, place_in}
 use Rattle.icl_declarations.specs.Widths.{free_in, sized_in, joined}
 use Rattle.icl_references.specs.declared.hier.Ref.{Ref}
@@ -67,7 +67,7 @@ abbrev pub closed : Place → OpenBits → Answer (Unit {0})
 closed at bits = refuse_if (not (list_all is_some bits)) (BadNumber at)
 
 -- a number has no x
-abbrev pub number_bits : Place → Place → Option ℕ → Worth → Answer OpenBits
+abbrev pub number_bits : Place → Place → Option ℕ → AValue → Answer OpenBits
 number_bits holder at wanted (AnInteger n) = free_number holder at wanted (integer_bits n)
 number_bits holder at wanted (SomeBits false bits) = closed at bits >>= λ u. free_number holder at wanted bits
 number_bits holder at wanted (SomeBits true bits) = closed at bits >>= λ u. sized_number holder wanted bits
@@ -132,7 +132,7 @@ module _ (frames : List Frame) (here : Here) where
 
   abbrev pub data_meant : Place → Option ℕ → Place → Bool → SeenSigWhat → Answer (List Ref)
   data_meant holder wanted at inverted (ANumber e) = evaluate params at e
-      >>= λ worth. number_bits holder (place_in at e) wanted worth >>= λ bits. Ok (constants inverted bits)
+      >>= λ value. number_bits holder (place_in at e) wanted value >>= λ bits. Ok (constants inverted bits)
   data_meant holder wanted at inverted (APath path range) = data_path at inverted path range
 
   unfoldable pub data_signal : Place → Option ℕ → SeenSig → Answer (List Ref)

@@ -1,7 +1,7 @@
 use Rattle.std.proofs.Common.{sym, ap, ◌∙◌, arith}
 use Rattle.ij_text.specs.Numbers.{tern_bits}
 use Rattle.ij_text.proofs.Numbers.{open_length}
-use Rattle.icl_declarations.proofs.ClosedNumbers.{worth, are_closed, met_open, met_big, at_start, all_read}
+use Rattle.icl_declarations.proofs.ClosedNumbers.{total, are_closed, met_open, met_big, at_start, all_read}
 use Rattle.icl_declarations.proofs.integers.closed_number.Goals as goal
 
 pub loop-k-init : goal.loop-k-init
@@ -9,7 +9,7 @@ loop-k-init c =
     let t = c.args.t.now in
     let long = open_length t.value.items t.care.items t.same_length ∙ sym c.len-len.ensures.value in
     let start = at_start (tern_bits t) c.len-len.result long in
-    record { long = long; small = omega arith; closed = ap are_closed start; value = sym (ap worth start) }
+    record { long = long; small = omega arith; closed = ap are_closed start; value = sym (ap total start) }
 
 pub returns-in-None : goal.returns-in-None
 returns-in-None c = met_open c.args.at
