@@ -164,7 +164,8 @@ module _ (net : Net) (form : Items) (t : IsTestable net form) where
       let hs = scans_of_row net form b h in
       let front = o.last_stays.0 in
       let last = last_holds h front in
-      let ends : last_holds h hs ≡ last = ap (last_holds h) o.last_stays.1 ∙ last-both h front (last ∷ []) in (
+      let ends : last_holds h hs ≡ last = ap (last_holds h) o.last_stays.1
+      ∙ last-both h front (last ∷ []) in (
         record {
           few = o.few;
           front = front;

@@ -232,7 +232,8 @@ module _ (net : Net) (form : Items) (device : Device) (steps : List SeenStep) wh
   pub has_script : IsRetargetable net form
       → All (StepIsPlannable net form) steps → HasScript net form device steps
   has_script n a =
-      let (xs, p) = steps_planned net form n steps (start_holds net) (start_scannable net form n.lawful) a in (
+      let (xs, p) = steps_planned net form n steps (start_holds net)
+      (start_scannable net form n.lawful) a in (
         script_text device (script_of net (start_holds net) xs),
         record { plans = xs; planned = p; text = refl },
       )

@@ -43,7 +43,8 @@ loop-i-preserved c =
           w.compared-picked.ensures w.in-Ok.ensures
           (ap items w.reads-is ∙ w.in_ok-push-in-Ok.ensures.ok) c.loop-i.invariant
       | in-None w ↦
-          not_read net c.args.at c.args.read c.args.spots.now values c.loop-i.i c.get-spot.result c.loop-i.reads.items c.match-value_at.reads.items all
+          not_read net c.args.at c.args.read c.args.spots.now values c.loop-i.i c.get-spot.result
+          c.loop-i.reads.items c.match-value_at.reads.items all
           (record {
             below = omega (arith, c.loop-i-test.true, c.len-i-end.ensures);
             many = tern_length c.args.values.now ∙ c.requires.wide;

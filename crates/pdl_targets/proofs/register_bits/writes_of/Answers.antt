@@ -43,7 +43,8 @@ loop-i-preserved c =
           w.written.ensures w.in-Ok.ensures
           (ap items w.writes-is ∙ w.in_ok-push-in-Ok.ensures.ok) c.loop-i.invariant
       | in-None w ↦
-          skipped net c.args.at c.args.spots.now values c.loop-i.i c.get-spot.result c.loop-i.writes.items c.match-value_at.writes.items all
+          skipped net c.args.at c.args.spots.now values c.loop-i.i c.get-spot.result
+          c.loop-i.writes.items c.match-value_at.writes.items all
           (record {
             below = omega (arith, c.loop-i-test.true, c.len-i-end.ensures);
             many = tern_length c.args.values.now ∙ c.requires.wide;
