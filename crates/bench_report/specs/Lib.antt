@@ -1,2 +1,3 @@
+-- the meaning
 pub mod Report
 pub mod MadeReport

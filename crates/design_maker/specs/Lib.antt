@@ -1,3 +1,4 @@
+-- the meaning
 pub mod Draws
 pub mod Numbered
 pub mod Instruments

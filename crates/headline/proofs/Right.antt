@@ -12,10 +12,9 @@ use Rattle.path_planner.specs.Scannable.{IsScannable}
 use Rattle.path_planner.proofs.Depth.{group_shallow}
 use Rattle.path_planner.proofs.Starting.{start_scannable, reset_scannable}
 use Rattle.headline.specs.Headline.{IsRetargeting}
-use Rattle.headline.specs.Planned.{AnyMachines}
 use Rattle.headline.specs.Script.{Round, steps_of, script_text}
 use Rattle.headline.specs.Sizes.{IsLimited, rounds_in, cycles_in}
-use Rattle.headline.proofs.PlannedScripts.{planned_right_by, planned_written}
+use Rattle.headline.proofs.PlannedScripts.{planned_scripts_are_right, planned_written}
 use Rattle.headline.proofs.PlannedSizes.{planned_scripts_are_short}
 use Rattle.headline.proofs.Reading.{written_scripts_are_read}
 use Rattle.headline.specs.Scans.{scans_of, holds_after}
@@ -105,8 +104,8 @@ plans_are_right net form device xs c d a w =
     let s = start_scannable net form c.lawful in
     let u = selects_drive_nothing net form c in
     let planned = plans_are_scripts net form xs c a in
-    let right : IsRetargeting AnyMachines net device (steps_of script) script bytes =
-    planned_right_by AnyMachines net device script c.well_formed u d planned in
+    let right : IsRetargeting net device (steps_of script) script bytes =
+    planned_scripts_are_right net device script c.well_formed u d planned in
     let limits : IsLimited script = record {
       few_steps = omega (arith, steps_count net h xs, w.few_steps);
       few_rounds = omega (arith, rounds_count net h xs, w.few_rounds);
@@ -119,7 +118,7 @@ plans_are_right net form device xs c d a w =
       network = c;
       plans = xs;
       planned = a;
-      right = subst (λ steps. IsRetargeting AnyMachines net device steps script bytes)
+      right = subst (λ steps. IsRetargeting net device steps script bytes)
           (steps_same net h xs) right;
       read = written_scripts_are_read device script d
           (planned_written net h script planned) short.0.few_clocks;

@@ -21,7 +21,7 @@ use Rattle.net_bench.specs.Bench.{Chip, State, fault_free}
 use Rattle.net_bench.specs.Playing.{play_from}
 use Rattle.headline.specs.Agreement.{after_round}
 use Rattle.headline.specs.Headline.{PlaysOn, IsRetargeting, after_preface, first_scans}
-use Rattle.headline.specs.Planned.{AnyMachines, IsPlanned}
+use Rattle.headline.specs.Planned.{IsPlanned}
 use Rattle.headline.specs.Sizes.{IsShort}
 use Rattle.svf_reader.specs.Meaning.{svf}
 use Rattle.headline.specs.Script.{Round, ScannedStep, Applied, Ran, WasReset, commands_of, script_commands}
@@ -171,7 +171,7 @@ pub record IsRetargeted (net : Net) (form : Items) (device : Device)
   pub network : IsRetargetable net form
   pub plans : List PlannedStep
   pub planned : StepsArePlanned net form (start_holds net) plans
-  pub right : IsRetargeting AnyMachines net device steps (script_of net (start_holds net) plans) bytes
+  pub right : IsRetargeting net device steps (script_of net (start_holds net) plans) bytes
   pub read : svf bytes ≡ Ok (script_commands device (script_of net (start_holds net) plans))
   pub short : IsShort device (script_of net (start_holds net) plans)
   pub few_bytes : length bytes < 90000000

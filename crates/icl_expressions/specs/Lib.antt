@@ -1,3 +1,4 @@
+-- how the code goes
 pub mod Seen
 pub mod SeenParts
 pub mod Reading

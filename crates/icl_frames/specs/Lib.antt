@@ -1,5 +1,8 @@
+-- the meaning
 pub mod FirstPass
+-- laws and examples
+pub mod Laws
+-- how the code goes
 pub mod Preorder
 pub mod SeenFrames
-pub mod Laws
 pub mod Written

@@ -1,17 +1,20 @@
+-- the meaning
 pub mod Pieces
 pub mod Token
 pub mod Cutting
-pub mod States
-pub mod Matches
-pub mod Answers
-pub mod Laws
-pub mod Examples
 pub mod Seen
-pub mod Lexemes
-pub mod Held
 pub mod Tokens
 pub mod Words
 pub mod Values
 pub mod Grammar
 pub mod Modules
+-- laws and examples
+pub mod Laws
+pub mod Examples
+-- how the code goes
+pub mod States
+pub mod Matches
+pub mod Answers
+pub mod Lexemes
+pub mod Held
 pub mod Views

@@ -1,4 +1,7 @@
+-- the meaning
+pub mod Refusals
+-- laws and examples
+pub mod Laws
+-- how the code goes
 pub mod SeenParts
 pub mod Reading
-pub mod Refusals
-pub mod Laws

@@ -1,7 +1,9 @@
+-- the meaning
 pub mod Names
 pub mod Signals
 pub mod Roles
 pub mod Muxes
+-- how the code goes
 pub mod Tables
 pub mod Targets
 pub mod Overlaps

@@ -1,3 +1,4 @@
+-- the meaning
 pub mod Places
 pub mod Bytes
 pub mod Numbering
@@ -5,8 +6,10 @@ pub mod Words
 pub mod Parts
 pub mod Options
 pub mod Numbers
-pub mod Answers
-pub mod Examples
 pub mod Symbol
-pub mod Reading
 pub mod Refusal
+-- laws and examples
+pub mod Examples
+-- how the code goes
+pub mod Answers
+pub mod Reading

@@ -132,5 +132,5 @@ runs_differ_alike begins compare law net form device models steps bytes commands
     ap (λ cs. is_empty (differs_of net device models cs)) are
     ∙ ap is_empty listed
     ∙ both_alike (compared (listing net device machines) ds) (at_end (listing net device machines) ds).reads
-    (law net device machines ds (right.right.plays machines tt))
+    (law net device machines ds (right.right.plays machines))
     ∙ ap is_empty (sym meant)

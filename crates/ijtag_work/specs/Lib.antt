@@ -12,6 +12,7 @@ pub mod Ends
 pub mod Promises
 pub mod Headline
 pub mod Audited
+pub mod Tested
 pub mod ByStatus
 pub mod Codes
 -- how the code goes
@@ -23,4 +24,3 @@ pub mod Filed
 pub mod Late
 pub mod Naming
 pub mod Laws
-pub mod Tested

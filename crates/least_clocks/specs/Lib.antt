@@ -1,4 +1,7 @@
+-- the meaning
 pub mod Inside
 pub mod Least
-pub mod Counting
+-- laws and examples
 pub mod Law
+-- how the code goes
+pub mod Counting

@@ -1,8 +1,10 @@
+-- the meaning
 pub mod Test
 pub mod Seen
 pub mod Reported
-pub mod Flushes
 pub mod Laws
+-- how the code goes
+pub mod Flushes
 pub mod Reading
 pub mod Texts
 pub mod Steps

@@ -1,3 +1,4 @@
+-- the meaning
 pub mod Signals
 pub mod Path
 pub mod Chain
@@ -5,20 +6,22 @@ pub mod Resets
 pub mod Named
 pub mod Nets
 pub mod Devices
-pub mod OneRegister
 pub mod SeenSteps
 pub mod Groups
-pub mod Spotted
 pub mod Steps
 pub mod Held
-pub mod Tracing
 pub mod MuxesMet
 pub mod Stuck
 pub mod Writes
-pub mod Selects
 pub mod PathNames
-pub mod Marks
+-- laws and examples
+pub mod OneRegister
 pub mod MarkLaws
+-- how the code goes
+pub mod Spotted
+pub mod Tracing
+pub mod Selects
+pub mod Marks
 pub mod MarkedSelects
 pub mod Numbered
 pub mod RowTables

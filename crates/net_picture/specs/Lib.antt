@@ -1,10 +1,17 @@
+-- the meaning
 pub mod Labels
 pub mod Plan
 pub mod Pens
 pub mod Layout
 pub mod Met
-pub mod Walk
 pub mod Drawing
+pub mod Captures
+pub mod Svg
+pub mod Dot
+-- laws and examples
+pub mod Examples
+-- how the code goes
+pub mod Walk
 pub mod There
 pub mod Whole
 pub mod Apart
@@ -12,10 +19,6 @@ pub mod Marked
 pub mod Rows
 pub mod Line
 pub mod Outline
-pub mod Captures
-pub mod Svg
-pub mod Dot
 pub mod Edges
 pub mod Said
 pub mod ReadGraph
-pub mod Examples

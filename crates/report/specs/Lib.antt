@@ -1,3 +1,4 @@
+-- the meaning
 pub mod Paths
 pub mod Registers
 pub mod Numbers

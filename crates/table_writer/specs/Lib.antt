@@ -1,2 +1,3 @@
+-- how the code goes
 pub mod Pieces
 pub mod Again

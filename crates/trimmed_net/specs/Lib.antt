@@ -1,3 +1,5 @@
+-- the meaning
 pub mod Trimmed
 pub mod Device
+-- laws and examples
 pub mod Laws
