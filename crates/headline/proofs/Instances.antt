@@ -18,7 +18,7 @@ use Rattle.headline.proofs.MuxExamples.{dev, set, rounds_net, first_round, secon
 use Rattle.headline.proofs.MuxPlans.{rounds_net_is_net, dev_is_device, first_planned, second_planned}
 use Rattle.headline.proofs.MuxPlans.{written_first}
 use Rattle.headline.specs.Retargeting.{PlannedGroup, PlannedStep, Applies, IsPlannedGroup, IsRetargetable}
-use Rattle.headline.specs.Retargeting.{IsRetargeted, StepsArePlanned, script_of, seen_of}
+use Rattle.headline.specs.Retargeting.{DoesSteps, StepsArePlanned, script_of, seen_of}
 use Rattle.headline.proofs.Right.{plans_are_right}
 
 -- from scan-in the register S, and after it A or B
@@ -131,7 +131,7 @@ rounds_planned = (omega arith, (first_is_planned, (second_is_planned, tt)), tt)
 rounds_are_written : script_of rounds_net (start_holds rounds_net) rounds ≡ rounds_script
 rounds_are_written = refl
 
-rounds_are_right : IsRetargeted rounds_net form dev (map seen_of rounds)
+rounds_are_right : DoesSteps rounds_net form dev (map seen_of rounds)
     (script_text dev (script_of rounds_net (start_holds rounds_net) rounds))
 rounds_are_right =
     plans_are_right rounds_net form dev rounds rounds_net_is_retargetable dev_is_device rounds_planned

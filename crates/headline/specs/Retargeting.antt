@@ -166,7 +166,7 @@ pub record IsWithinLimits (xs : List PlannedStep) : Type 0 where
 -- reader of SVF finds the script's commands in them: these, played clock by clock from power-up, do the bit
 -- steps, whatever the instruments are, and each round's scans are the opening of its group and then its one
 -- scan, as few as can be.
-pub record IsRetargeted (net : Net) (form : Items) (device : Device)
+pub record DoesSteps (net : Net) (form : Items) (device : Device)
     (steps : List SeenStep) (bytes : List ℕ) : Type 0 where
   pub network : IsRetargetable net form
   pub plans : List PlannedStep
@@ -184,7 +184,7 @@ abbrev pub PlansAreRight : Type 0
 PlansAreRight =
     (net : Net) (form : Items) (device : Device) (xs : List PlannedStep) → IsRetargetable net form
     → IsDevice device → StepsArePlanned net form (start_holds net) xs → IsWithinLimits xs
-    → IsRetargeted net form device (map seen_of xs) (script_text device (script_of net (start_holds net) xs))
+    → DoesSteps net form device (map seen_of xs) (script_text device (script_of net (start_holds net) xs))
 
 -- bit steps have one script, whatever plans were found: so the text is a function of the network and the
 -- steps
@@ -198,5 +198,5 @@ ScriptsAreOne =
 abbrev pub TextsAreOne : Type 0
 TextsAreOne =
     (net : Net) (form : Items) (device : Device) (steps : List SeenStep) (a b : List ℕ)
-    → IsRetargeted net form device steps a → IsRetargeted net form device steps b
+    → DoesSteps net form device steps a → DoesSteps net form device steps b
     → a ≡ b

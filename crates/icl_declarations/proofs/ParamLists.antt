@@ -5,7 +5,7 @@ use Rattle.std.specs.Str.{bytes_eq}
 use Rattle.std.specs.Option.{option_map}
 use Rattle.std.specs.Map.{lookup}
 use Rattle.indexmap.specs.IndexMap.{insert_entry}
-use Rattle.icl_declarations.specs.Values.{Given, AValue, param_value, with_param}
+use Rattle.icl_declarations.specs.Values.{Given, ParamValue, param_value, with_param}
 
 -- one view after another
 pub map_twice : {A B C : Type 0} (g : A → B) (f : B → C) (o : Option A)
@@ -13,7 +13,7 @@ pub map_twice : {A B C : Type 0} (g : A → B) (f : B → C) (o : Option A)
 map_twice g f None = refl
 map_twice g f (Some x) = refl
 
-module _ {K V : Type 0} (name_of : K → List ℕ) (see : V → AValue) where
+module _ {K V : Type 0} (name_of : K → List ℕ) (see : V → ParamValue) where
   abbrev pub given : List (K × V) → List Given
   given es = map (λ (e : K × V). record { name = name_of e.0; value = see e.1 }) es
 

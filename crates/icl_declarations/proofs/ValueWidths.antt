@@ -5,7 +5,8 @@ use Rattle.std.proofs.lemmas.List.FromFn.{length-map-range_with_len}
 use Rattle.ij_text.specs.declared.Place.{Place}
 use Rattle.icl_lexer.specs.Values.{SeenExpr}
 use Rattle.icl_declarations.specs.Faults.{Answer, ◌>>=◌, each, WidthDiffers}
-use Rattle.icl_declarations.specs.Values.{OpenBits, AValue, AnInteger, SomeBits, AText, Params, integer_bits}
+use Rattle.icl_declarations.specs.Values.{OpenBits, ParamValue, AnInteger, SomeBits, AText, Params}
+use Rattle.icl_declarations.specs.Values.{integer_bits}
 use Rattle.icl_declarations.specs.Sized.{fits, in_width}
 use Rattle.icl_declarations.specs.Expressions.{evaluate, place_in}
 use Rattle.icl_declarations.specs.Widths.{free_in, sized_in, lone_in, one_part, joined, parts_value, value_in}
@@ -32,7 +33,8 @@ sized_wide holder width bits = by_test (nat_lt width (length bits))
     by_test true = tt
     by_test false = wide width bits
 
-lone_wide : (holder at : Place) (width : ℕ) (value : AValue) → IsWide width (lone_in holder at width value)
+lone_wide : (holder at : Place) (width : ℕ) (value : ParamValue)
+    → IsWide width (lone_in holder at width value)
 lone_wide holder at width (AnInteger n) = free_wide holder width (integer_bits n)
 lone_wide holder at width (SomeBits false bits) = free_wide holder width bits
 lone_wide holder at width (SomeBits true bits) = sized_wide holder width bits

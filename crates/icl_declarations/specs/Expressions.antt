@@ -12,7 +12,8 @@ use Rattle.icl_lexer.specs.declared.tree.Sign.{Sign}
 use Rattle.icl_lexer.specs.declared.tree.Sign.TheVariants.{Plus, Minus, Times, Over, Rest}
 use Rattle.icl_lexer.specs.Values.{SeenExpr, ADecimal, ASized, AQuoted, AParam, AnOp}
 use Rattle.icl_declarations.specs.Faults.{Answer, ◌>>=◌, NoParameter, DivideByZero, BadNumber, WrongKind}
-use Rattle.icl_declarations.specs.Values.{OpenBits, AValue, AnInteger, SomeBits, AText, Params, param_value}
+use Rattle.icl_declarations.specs.Values.{OpenBits, ParamValue, AnInteger, SomeBits, AText, Params}
+use Rattle.icl_declarations.specs.Values.{param_value}
 use Rattle.icl_declarations.specs.Sized.{front, after, plain, bits_after, within_size, at_most_4096}
 
 -- ---- integers
@@ -26,18 +27,18 @@ unfoldable pub closed_number : Place → OpenBits → Answer ℕ
 closed_number at bits = cond (list_all is_some bits)
     (small at (number_of (map (λ b. unwrap_or b false) bits))) (Err (BadNumber at))
 
-abbrev pub as_integer : Place → AValue → Answer ℕ
+abbrev pub as_integer : Place → ParamValue → Answer ℕ
 as_integer at (AnInteger n) = Ok n
 as_integer at (SomeBits sized bits) = closed_number at bits
 as_integer at (AText text) = Err (WrongKind at)
 
 -- ---- parameters
 
-abbrev pub known : Place → List ℕ → Option AValue → Answer AValue
+abbrev pub known : Place → List ℕ → Option ParamValue → Answer ParamValue
 known at name None = Err (NoParameter at name)
 known at name (Some value) = Ok value
 
-abbrev pub parameter : Params → Place → List ℕ → Answer AValue
+abbrev pub parameter : Params → Place → List ℕ → Answer ParamValue
 parameter ps at name = known at name (param_value ps name)
 
 -- ---- sized numbers
@@ -54,16 +55,16 @@ unfoldable pub size_of : Params → Place → List ℕ → Answer (Option ℕ)
 size_of ps at [] = Ok None
 size_of ps at (b ∷ bs) = cond (b == 36) (parameter_size ps at bs) (size at (decimal_from 0 (b ∷ bs)))
 
-abbrev pub told : Place → Bool → Option OpenBits → Answer AValue
+abbrev pub told : Place → Bool → Option OpenBits → Answer ParamValue
 told at sized None = Err (BadNumber at)
 told at sized (Some bits) = Ok (SomeBits sized bits)
 
-abbrev pub number_of_size : Place → Option OpenBits → Option ℕ → Answer AValue
+abbrev pub number_of_size : Place → Option OpenBits → Option ℕ → Answer ParamValue
 number_of_size at None n = Err (BadNumber at)
 number_of_size at (Some bits) None = told at false (at_most_4096 bits)
 number_of_size at (Some bits) (Some n) = told at true (within_size n bits)
 
-unfoldable pub sized_number : Params → Place → List ℕ → Answer AValue
+unfoldable pub sized_number : Params → Place → List ℕ → Answer ParamValue
 sized_number ps at text = size_of ps at (front text) >>= number_of_size at (bits_after (plain (after text)))
 
 -- ---- operators
@@ -91,7 +92,7 @@ place_in holder (AQuoted text) = holder
 place_in holder (AParam at name) = at
 place_in holder (AnOp at sign a b) = holder
 
-unfoldable pub evaluate : Params → Place → SeenExpr → Answer AValue
+unfoldable pub evaluate : Params → Place → SeenExpr → Answer ParamValue
 evaluate ps holder (ADecimal n) = Ok (AnInteger n)
 evaluate ps holder (ASized text) = sized_number ps holder text
 evaluate ps holder (AQuoted text) = Ok (AText text)

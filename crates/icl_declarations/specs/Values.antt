@@ -11,12 +11,12 @@ abbrev pub OpenBits : Type 0
 OpenBits = List (Option Bool)
 
 -- an integer; a number in bits, with a size or without; a text
-pub data AValue : Type 0 where
-  AnInteger : ℕ → AValue
-  SomeBits : Bool → OpenBits → AValue
-  AText : List ℕ → AValue
+pub data ParamValue : Type 0 where
+  AnInteger : ℕ → ParamValue
+  SomeBits : Bool → OpenBits → ParamValue
+  AText : List ℕ → ParamValue
 
-abbrev pub seen_value : Value → AValue
+abbrev pub seen_value : Value → ParamValue
 seen_value (Integer n) = AnInteger n
 seen_value (Bits sized t) = SomeBits sized (tern_bits t)
 seen_value (Text text) = AText text.items
@@ -33,18 +33,18 @@ integer_bits n = number_bits 32 n
 
 pub record Given : Type 0 where
   pub name : List ℕ
-  pub value : AValue
+  pub value : ParamValue
 
 abbrev pub Params : Type 0
 Params = List Given
 
 -- the value of a name
-abbrev pub param_value : Params → List ℕ → Option AValue
+abbrev pub param_value : Params → List ℕ → Option ParamValue
 param_value [] name = None
 param_value (p ∷ ps) name = cond (bytes_eq name p.name) (Some p.value) (param_value ps name)
 
 -- a value in place of one of the same name, or after the others
-abbrev pub with_param : Params → List ℕ → AValue → Params
+abbrev pub with_param : Params → List ℕ → ParamValue → Params
 with_param [] name value = record { name = name; value = value } ∷ []
 with_param (p ∷ ps) name value =
     cond (bytes_eq name p.name) (record p { value = value } ∷ ps) (p ∷ with_param ps name value)

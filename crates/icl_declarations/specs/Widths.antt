@@ -4,7 +4,8 @@ use Rattle.std.specs.Prelude.{ℕ, true, false, cond, nat_lt, List, [], ◌∷�
 use Rattle.ij_text.specs.declared.Place.{Place}
 use Rattle.icl_lexer.specs.Values.{SeenExpr}
 use Rattle.icl_declarations.specs.Faults.{Answer, ◌>>=◌, each, WidthDiffers, WrongKind}
-use Rattle.icl_declarations.specs.Values.{OpenBits, AValue, AnInteger, SomeBits, AText, Params, integer_bits}
+use Rattle.icl_declarations.specs.Values.{OpenBits, ParamValue, AnInteger, SomeBits, AText, Params}
+use Rattle.icl_declarations.specs.Values.{integer_bits}
 use Rattle.icl_declarations.specs.Sized.{fits, in_width}
 use Rattle.icl_declarations.specs.Expressions.{evaluate, place_in}
 
@@ -18,14 +19,14 @@ sized_in holder width bits =
     cond (nat_lt width (length bits)) (Err (WidthDiffers holder)) (Ok (in_width width bits))
 
 -- a number alone
-abbrev pub lone_in : Place → Place → ℕ → AValue → Answer OpenBits
+abbrev pub lone_in : Place → Place → ℕ → ParamValue → Answer OpenBits
 lone_in holder at width (AnInteger n) = free_in holder width (integer_bits n)
 lone_in holder at width (SomeBits false bits) = free_in holder width bits
 lone_in holder at width (SomeBits true bits) = sized_in holder width bits
 lone_in holder at width (AText text) = Err (WrongKind at)
 
 -- a number of a concatenation needs a size
-abbrev pub part_of : Place → AValue → Answer OpenBits
+abbrev pub part_of : Place → ParamValue → Answer OpenBits
 part_of at (AnInteger n) = Err (WrongKind at)
 part_of at (SomeBits false bits) = Err (WrongKind at)
 part_of at (SomeBits true bits) = Ok bits

@@ -17,7 +17,7 @@ use Rattle.icl_lexer.specs.Values.{ARegister, AMux, AChild, AnAlias, SomeWords, 
 use Rattle.icl_lexer.specs.Values.{ALink, AnAttribute, SeenItem}
 use Rattle.icl_declarations.specs.Faults.{Answer, ◌>>=◌, refuse_if, each, over, BadRange, WrongKind}
 use Rattle.icl_declarations.specs.Faults.{RowsOverlap}
-use Rattle.icl_declarations.specs.Values.{OpenBits, AValue, AnInteger, SomeBits, AText, Params}
+use Rattle.icl_declarations.specs.Values.{OpenBits, ParamValue, AnInteger, SomeBits, AText, Params}
 use Rattle.icl_declarations.specs.Expressions.{evaluate, place_in}
 use Rattle.icl_declarations.specs.Widths.{value_in, joined}
 use Rattle.icl_declarations.specs.declared.ranges.Bounds.{Bounds}
@@ -247,7 +247,7 @@ free_none : (holder at : Place) (b bits : OpenBits) → free_number holder at No
 free_none holder at b bits h = cc
 
 module _ (frames : List Frame) (here : Here) (sound : AreSound here.frame.params) where
-  number_long : (holder at : Place) (w : AValue) (bits : OpenBits) → IsSound w
+  number_long : (holder at : Place) (w : ParamValue) (bits : OpenBits) → IsSound w
       → number_bits holder at None w ≡ Ok bits
       → 1 ≤ length bits
   number_long holder at (AnInteger n) bits g h = absurd cc

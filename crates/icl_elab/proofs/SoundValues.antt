@@ -13,7 +13,7 @@ use Rattle.icl_lexer.specs.Values.{ABoundParameter, ABoundAttribute, SeenWhat, A
 use Rattle.icl_lexer.specs.Values.{AnAlias, SomeWords, AParameter, AnInterface, ALink, AnAttribute, SeenItem}
 use Rattle.icl_lexer.specs.Values.{SeenModule}
 use Rattle.icl_declarations.specs.Faults.{Answer, ◌>>=◌, refuse_if, NoName, DoubleName, BadNumber}
-use Rattle.icl_declarations.specs.Values.{OpenBits, AValue, AnInteger, SomeBits, AText, Given, Params}
+use Rattle.icl_declarations.specs.Values.{OpenBits, ParamValue, AnInteger, SomeBits, AText, Given, Params}
 use Rattle.icl_declarations.specs.Values.{param_value, with_param}
 use Rattle.icl_declarations.specs.Sized.{front, after, plain, bits_after, fits, in_width, within_size}
 use Rattle.icl_declarations.specs.Sized.{at_most_4096}
@@ -28,7 +28,7 @@ use Rattle.icl_frames.proofs.Answering.{both, ok_is, over_all}
 use Rattle.icl_frames.proofs.Entering.{frames_are_preorder}
 use Rattle.ij_bits.proofs.Everywhere.{all_both}
 
-abbrev pub IsSound : AValue → Type 0
+abbrev pub IsSound : ParamValue → Type 0
 IsSound (SomeBits true bits) = 1 ≤ length bits
 IsSound (SomeBits false bits) = Unit {0}
 IsSound (AnInteger n) = Unit {0}
@@ -48,7 +48,7 @@ value_found (p ∷ ps) name h = by_test (bytes_eq name p.name) (value_found ps n
     by_test true again = h.0
     by_test false again = again
 
-with_param_kept : (ps : Params) (name : List ℕ) (w : AValue) → AreSound ps
+with_param_kept : (ps : Params) (name : List ℕ) (w : ParamValue) → AreSound ps
     → IsSound w → AreSound (with_param ps name w)
 with_param_kept [] name w h g = (g, tt)
 with_param_kept (p ∷ ps) name w h g = by_test (bytes_eq name p.name) (with_param_kept ps name w h.1 g)
@@ -88,11 +88,11 @@ size_of_is ps at (b ∷ bs) o h = by_test (b == 36) h
     by_test true g = of_parameter g
     by_test false g = size_is at (decimal_from 0 (b ∷ bs)) o g
 
-told_free : (at : Place) (o : Option OpenBits) (w : AValue) → told at false o ≡ Ok w → IsSound w
+told_free : (at : Place) (o : Option OpenBits) (w : ParamValue) → told at false o ≡ Ok w → IsSound w
 told_free at None w h = absurd cc
 told_free at (Some bits) w h = subst IsSound (ok_is (SomeBits false bits) w h) tt
 
-told_sized : (at : Place) (n : ℕ) (bits : OpenBits) (w : AValue) → 1 ≤ n
+told_sized : (at : Place) (n : ℕ) (bits : OpenBits) (w : ParamValue) → 1 ≤ n
     → told at true (within_size n bits) ≡ Ok w → IsSound w
 told_sized at n bits w le h = by_test (fits n bits) h
   where
@@ -102,7 +102,7 @@ told_sized at n bits w le h = by_test (fits n bits) h
         (subst (λ k. 1 ≤ k) (sym (length-map-range_with_len (λ k. get_or bits k (Some false)) 0 n)) le)
     by_test false g = absurd cc
 
-number_sound : (at : Place) (o : Option OpenBits) (n : Option ℕ) (w : AValue) → IsSize n
+number_sound : (at : Place) (o : Option OpenBits) (n : Option ℕ) (w : ParamValue) → IsSize n
     → number_of_size at o n ≡ Ok w → IsSound w
 number_sound at None n w s h = absurd cc
 number_sound at (Some bits) None w s h = told_free at (at_most_4096 bits) w h
@@ -110,12 +110,12 @@ number_sound at (Some bits) (Some n) w s h = told_sized at n bits w s h
 
 -- ---- expressions
 
-known_sound : (at : Place) (name : List ℕ) (o : Option AValue) (w : AValue)
+known_sound : (at : Place) (name : List ℕ) (o : Option ParamValue) (w : ParamValue)
     → IfSome o IsSound → known at name o ≡ Ok w → IsSound w
 known_sound at name None w g h = absurd cc
 known_sound at name (Some v) w g h = subst IsSound (ok_is v w h) g
 
-pub evaluate_sound : (ps : Params) (at : Place) (e : SeenExpr) (w : AValue)
+pub evaluate_sound : (ps : Params) (at : Place) (e : SeenExpr) (w : ParamValue)
     → AreSound ps → evaluate ps at e ≡ Ok w → IsSound w
 unfolding evaluate sized_number
 evaluate_sound ps at (ADecimal n) w g h = subst IsSound (ok_is (AnInteger n) w h) tt
@@ -134,9 +134,8 @@ evaluate_sound ps at (AnOp place sign x y) w g h =
 
 -- ---- the parameters of frames
 
-in_sound : (given ps : Params) (at : Place) (name : List ℕ) (e : SeenExpr) (o : Option AValue) (w : AValue)
-    → AreSound ps
-    → IfSome o IsSound → param_in given ps at name e o ≡ Ok w → IsSound w
+in_sound : (given ps : Params) (at : Place) (name : List ℕ) (e : SeenExpr) (o : Option ParamValue)
+    (w : ParamValue) → AreSound ps → IfSome o IsSound → param_in given ps at name e o ≡ Ok w → IsSound w
 in_sound given ps at name e None w g i h = evaluate_sound ps at e w g h
 in_sound given ps at name e (Some v) w g i h = subst IsSound (ok_is v w h) i
 

@@ -11,7 +11,7 @@ use Rattle.icl_lexer.specs.Values.{SeenExpr, SeenBind, ABoundPort, ABoundParamet
 use Rattle.icl_lexer.specs.Values.{AChild, AParameter, SeenItem, SeenModule}
 use Rattle.icl_declarations.specs.Faults.{Answer, ◌>>=◌, refuse_if, over, NoModule, NoName, DoubleName}
 use Rattle.icl_declarations.specs.Faults.{InstanceLoop, Limit}
-use Rattle.icl_declarations.specs.Values.{AValue, Params, param_value, with_param}
+use Rattle.icl_declarations.specs.Values.{ParamValue, Params, param_value, with_param}
 use Rattle.icl_declarations.specs.Expressions.{evaluate}
 use Rattle.icl_declarations.specs.declared.counts.Counts.{Counts}
 use Rattle.icl_declarations.specs.Parts.{is_part, range_in, block_named, is_open, is_instrument}
@@ -37,11 +37,11 @@ pub record Request : Type 0 where
 -- ---- parameters
 
 -- a parameter that its instance binds has that value, and every other one its own
-abbrev pub param_in : Params → Params → Place → List ℕ → SeenExpr → Option AValue → Answer AValue
+abbrev pub param_in : Params → Params → Place → List ℕ → SeenExpr → Option ParamValue → Answer ParamValue
 param_in given ps at name e None = evaluate ps at e
 param_in given ps at name e (Some value) = Ok value
 
-abbrev pub bound_value : Params → Bool → List ℕ → Option AValue
+abbrev pub bound_value : Params → Bool → List ℕ → Option ParamValue
 bound_value given local name = cond local None (param_value given name)
 
 abbrev pub with_parameter : Params → Params → SeenItem → SeenWhat → Answer Params

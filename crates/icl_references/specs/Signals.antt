@@ -9,7 +9,8 @@ use Rattle.ij_text.specs.declared.Place.{Place}
 use Rattle.icl_lexer.specs.Values.{SeenRange, SeenSigWhat, ANumber, APath, SeenSig, SeenWhat}
 use Rattle.icl_declarations.specs.Faults.{Answer, ◌>>=◌, refuse_if, each, over, BadNumber, WidthDiffers}
 use Rattle.icl_declarations.specs.Faults.{WrongKind}
-use Rattle.icl_declarations.specs.Values.{OpenBits, AValue, AnInteger, SomeBits, AText, Params, integer_bits}
+use Rattle.icl_declarations.specs.Values.{OpenBits, ParamValue, AnInteger, SomeBits, AText, Params}
+use Rattle.icl_declarations.specs.Values.{integer_bits}
 use Rattle.icl_declarations.specs.Expressions.{evaluate, place_in}
 use Rattle.icl_declarations.specs.Widths.{free_in, sized_in, joined}
 use Rattle.icl_references.specs.declared.hier.Ref.{Ref}
@@ -67,7 +68,7 @@ abbrev pub closed : Place → OpenBits → Answer (Unit {0})
 closed at bits = refuse_if (not (list_all is_some bits)) (BadNumber at)
 
 -- a number has no x
-abbrev pub number_bits : Place → Place → Option ℕ → AValue → Answer OpenBits
+abbrev pub number_bits : Place → Place → Option ℕ → ParamValue → Answer OpenBits
 number_bits holder at wanted (AnInteger n) = free_number holder at wanted (integer_bits n)
 number_bits holder at wanted (SomeBits false bits) = closed at bits >>= λ u. free_number holder at wanted bits
 number_bits holder at wanted (SomeBits true bits) = closed at bits >>= λ u. sized_number holder wanted bits

@@ -12,7 +12,7 @@ use Rattle.svf_reader.specs.Meaning.{Refusal as SvfRefusal, svf}
 use Rattle.svf_writer.specs.Fits.{AreFit}
 use Rattle.svf_writer.specs.SeenCommands.{SeenCommand}
 use Rattle.headline.specs.Script.{ScannedStep, script_commands}
-use Rattle.headline.specs.Retargeting.{IsRetargetable, PlansAreScripts, script_of, IsRetargeted as DoSteps}
+use Rattle.headline.specs.Retargeting.{IsRetargetable, PlansAreScripts, script_of, DoesSteps}
 use Rattle.headline.proofs.GroupPlaying.{selects_drive_nothing}
 use Rattle.svf_audit.specs.Audit.{Reading, Verdict, Yes, No, audit as audit_commands}
 use Rattle.merge_order.specs.StepLaws.{BitStepsAreOfTheNetwork}
@@ -101,7 +101,7 @@ bytes_same name a b e = ap (λ (l : Leaves). first_bytes l.files) e
 
 module _ (scripts : PlansAreScripts) (pass : PlannedScriptsPass) (listed : PlansList) where
   own_yes : (it : SeenAccepted) (bytes : List ℕ) (commands : List SeenCommand)
-      (r : DoSteps it.network.net it.network.form it.device it.steps bytes)
+      (r : DoesSteps it.network.net it.network.form it.device it.steps bytes)
       → commands ≡ script_commands it.device (script_of it.network.net (start_holds it.network.net) r.plans)
       → says_no (audit_commands it.network.net it.device it.steps commands) ≡ false
   own_yes it bytes commands r same =
@@ -174,7 +174,7 @@ module _ (scripts : PlansAreScripts) (pass : PlannedScriptsPass) (listed : Plans
     own_passes : (texts : List (List ℕ)) (it : SeenAccepted)
         → (loaded (Some files) (loads_of (OfProcedure a.procedure))).gives texts
         → (accepted_of (texts_of (OfProcedure a.procedure) texts)).gives it
-        → DoSteps it.network.net it.network.form it.device it.steps bytes
+        → DoesSteps it.network.net it.network.form it.device it.steps bytes
         → (text : List ℕ) × (work (Some files) (task (Audits a))).gives (told text false)
     own_passes texts it read is r =
         let net = it.network.net in
@@ -201,7 +201,7 @@ module _ (scripts : PlansAreScripts) (pass : PlannedScriptsPass) (listed : Plans
       let right = own.2.2.1 in
       let same : bytes_of files a.svf ≡ bytes = bytes_same a.svf (bytes_of files a.svf) bytes own.2.2.2 in
       own_passes files a texts it read is (subst
-      (λ (b : List ℕ). DoSteps it.network.net it.network.form it.device it.steps b) (sym same) right)
+      (λ (b : List ℕ). DoesSteps it.network.net it.network.form it.device it.steps b) (sym same) right)
 
   -- whichever commands a reader finds in such a text
   pub written_yes : WrittenTextsPass

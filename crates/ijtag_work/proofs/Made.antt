@@ -7,7 +7,7 @@ use Rattle.net_graph.specs.Nets.{IsNet}
 use Rattle.net_graph.specs.SeenSteps.{SeenStep}
 use Rattle.net_tree.specs.Form.{Items, Describes}
 use Rattle.pdl_parser.specs.Values.{AProc}
-use Rattle.headline.specs.Retargeting.{IsRetargeted}
+use Rattle.headline.specs.Retargeting.{DoesSteps}
 use Rattle.headline.specs.Rounds.{StepIsPlannable, ProceduresArePlannable}
 use Rattle.merge_order.specs.BitSteps.{bit_steps}
 use Rattle.merge_order.specs.StepLaws.{BitStepsAreOfTheNetwork, BitStepsHavePaths}
@@ -24,7 +24,7 @@ plannable valid paths plan procs net form name is d = plan net form (bit_steps p
 -- a sink that was empty holds exactly the text, which is right
 pub made : (net : Net) (form : Items) (device : Device) (steps : List SeenStep) (svf : List ℕ)
     → HasScript net form device steps → WritesScript net form device steps (Some []) (Some svf)
-    → ScriptIsRight net form device steps → IsRetargeted net form device steps svf
+    → ScriptIsRight net form device steps → DoesSteps net form device steps svf
 made net form device steps svf (bytes, is) writes right =
-    subst (λ (b : List ℕ). IsRetargeted net form device steps b)
+    subst (λ (b : List ℕ). DoesSteps net form device steps b)
     (sym (same_Some svf bytes (writes bytes is).added)) (right bytes is)

@@ -3,7 +3,7 @@
 use Rattle.std.specs.Prelude.{◌≡◌, ℕ, Bool, List, Option, Some}
 use Rattle.std.specs.Option.{option_map}
 use Rattle.ij_io.specs.Files.{Files}
-use Rattle.headline.specs.Retargeting.{IsRetargeted as DoSteps}
+use Rattle.headline.specs.Retargeting.{DoesSteps}
 use Rattle.ijtag_work.specs.Accepted.{SeenAccepted, accepted_of}
 use Rattle.ijtag_work.specs.Command.{Command, Compile, Compiles, Run, Runs, Make, Makes, made_svf}
 use Rattle.ijtag_work.specs.Order.{compile, made_inputs, made_texts, reads_differ, run}
@@ -15,7 +15,7 @@ pub record HasRightSvf (files : Option Files)
     (svf : Option (Option (List ℕ))) (it : SeenAccepted) : Type 0 where
   pub bytes : List ℕ
   pub written : svf ≡ option_map (λ _. Some bytes) files
-  pub right : DoSteps it.network.net it.network.form it.device it.steps bytes
+  pub right : DoesSteps it.network.net it.network.form it.device it.steps bytes
 
 abbrev pub IsRetargeted : Option Files → Compile → Option (Option (List ℕ)) → Type 0
 IsRetargeted files c svf = AcceptedWith (compile c) files (HasRightSvf files svf)

@@ -18,7 +18,7 @@ use Rattle.net_bench.specs.Bench.{fault_free}
 use Rattle.net_bench.specs.Playing.{Compare}
 use Rattle.pdl_meaning.specs.Direct.{Direct, direct}
 use Rattle.headline.specs.Headline.{at_end, compared}
-use Rattle.headline.specs.Retargeting.{IsRetargetable, IsRetargeted, PlannedStep, StepsArePlanned, script_of}
+use Rattle.headline.specs.Retargeting.{IsRetargetable, DoesSteps, PlannedStep, StepsArePlanned, script_of}
 use Rattle.headline.specs.Retargeting.{seen_of}
 use Rattle.bench_report.specs.Report.{differs_of}
 use Rattle.run_report.specs.Places.{places}
@@ -41,7 +41,7 @@ abbrev pub RunsDifferAlike : Type 0
 RunsDifferAlike =
     (net : Net) (form : Items) (device : Device) (models : List SeenModel) (steps : List SeenStep)
     (bytes : List ℕ) (commands : List SeenCommand)
-    → IsRetargeted net form device steps bytes → svf bytes ≡ Ok commands
+    → DoesSteps net form device steps bytes → svf bytes ≡ Ok commands
     → is_empty (differs_of net device models commands) ≡ is_empty (direct_differs net models steps)
 
 -- What a play of planned steps from power-up compares are the reads of the steps, at their places, with the
@@ -71,7 +71,7 @@ abbrev pub DiffersAreNamed : Type 0
 DiffersAreNamed =
     (net : Net) (form : Items) (device : Device) (models : List SeenModel) (steps : List SeenStep)
     (bytes : List ℕ) (commands : List SeenCommand) (plans : List PlannedStep)
-    → IsRetargeted net form device steps bytes → svf bytes ≡ Ok commands
+    → DoesSteps net form device steps bytes → svf bytes ≡ Ok commands
     → StepsArePlanned net form (start_holds net) plans → map seen_of plans ≡ steps
     → (c : Compare) → Contains (differs_of net device models commands) c
     → IsNamed (places net plans) (direct count_log net (map machine_of models) steps).reads c

@@ -14,7 +14,7 @@ use Rattle.design_maker.specs.Texts.{made_icl, made_pdl, made_tables}
 use Rattle.direct_report.specs.Report.{direct_report, direct_differs}
 use Rattle.bench_report.specs.MadeReport.{made_report}
 use Rattle.pdl_targets.specs.Laws.{rounds_in}
-use Rattle.headline.specs.Retargeting.{IsRetargeted as DoSteps}
+use Rattle.headline.specs.Retargeting.{DoesSteps}
 use Rattle.mux_test.specs.Reported.{test_report}
 use Rattle.mux_test.specs.Test.{IsWithinLimit, scanned, test_text}
 use Rattle.ijtag_stages.specs.Work.{give, never, ◌>>=◌}
@@ -53,7 +53,7 @@ any_differs (x ∷ xs) = true
 unfoldable pub written_text : SeenAccepted → Part (List ℕ)
 written_text it = record {
   gives =
-      λ bytes. DoSteps it.network.net it.network.form it.device it.steps bytes;
+      λ bytes. DoesSteps it.network.net it.network.form it.device it.steps bytes;
   refuses = λ r. ⊥;
 }
 

@@ -22,7 +22,7 @@ use Rattle.headline.specs.Script.{ScannedStep, Applied, Ran, WasReset, step_text
 use Rattle.headline.specs.Script.{applies_after}
 use Rattle.headline.specs.Retargeting.{PlannedGroup, PlannedStep, Applies, Runs, Resets, seen_of, scanned_of}
 use Rattle.headline.specs.Retargeting.{script_of, holds_after_step, StepsArePlanned, IsRetargetable}
-use Rattle.headline.specs.Retargeting.{IsRetargeted, IsWithinLimits, groups_in, cycles_of, PlansAreRight}
+use Rattle.headline.specs.Retargeting.{DoesSteps, IsWithinLimits, groups_in, cycles_of, PlansAreRight}
 use Rattle.headline.specs.Rounds.{StepIsPlannable}
 use Rattle.retargeter.specs.Plans.{IsPlanOf, AreStepsOf}
 use Rattle.retargeter.specs.Scripts.{WritesSteps, WritesStepsPart, WritesScript, WritesScriptPart, AreFew}
@@ -241,10 +241,10 @@ module _ (net : Net) (form : Items) (device : Device) (steps : List SeenStep) wh
   pub script_is_right : PlansAreRight → IsRetargetable net form → IsDevice device
       → AreFew steps → ScriptIsRight net form device steps
   script_is_right law n d f bytes s =
-      let same : IsRetargeted net form device (map seen_of s.plans)
+      let same : DoesSteps net form device (map seen_of s.plans)
       (script_text device (script_of net (start_holds net) s.plans)) = law net form device s.plans n d
       s.planned.planned (within_limits steps s.plans s.planned.of_steps f) in
-      subst (IsRetargeted net form device steps) (sym s.text) (subst (λ z. IsRetargeted net form device z
+      subst (DoesSteps net form device steps) (sym s.text) (subst (λ z. DoesSteps net form device z
       (script_text device (script_of net (start_holds net) s.plans))) s.planned.of_steps same)
 
 -- ---- the next of the steps that are left

@@ -8,7 +8,7 @@ use Rattle.net_graph.specs.SeenSteps.{SeenStep}
 use Rattle.net_tree.specs.Form.{Items}
 use Rattle.pdl_targets.specs.Laws.{rounds_in, cycles_in}
 use Rattle.headline.specs.Script.{steps_text, script_text}
-use Rattle.headline.specs.Retargeting.{PlannedStep, script_of, IsRetargeted}
+use Rattle.headline.specs.Retargeting.{PlannedStep, script_of, DoesSteps}
 use Rattle.retargeter.specs.Plans.{AreStepsOf}
 use Rattle.retargeter.specs.Session.{Session}
 
@@ -56,4 +56,4 @@ module _ (net : Net) (form : Items) (device : Device) (steps : List SeenStep) wh
   -- such a text does the bit steps
   abbrev pub ScriptIsRight : Type 0
   ScriptIsRight = (bytes : List ℕ) → IsScript net form device steps bytes
-      → IsRetargeted net form device steps bytes
+      → DoesSteps net form device steps bytes
