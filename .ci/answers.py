@@ -118,7 +118,7 @@ def refused(title, icl, top, line):
 
 
 def hierarchies():
-    """Modules m0, m1 and so on, each with so many instances of the one before it: a top with the last one has as many of something as may be
+    """Modules m0, m1 and so on, each with this many instances of the one before it: a top with the last one has as many of something as may be
     and no link, and a top that has the module `one`, too, has one more."""
     mux, register = 'ScanInPort i; ScanMux m SelectedBy 1\'b0 { 0 : i; }', 'ScanInPort i; ScanRegister r%s { ScanInSource i; }'
     for items, one, instances, last, limit in (
@@ -133,7 +133,7 @@ def hierarchies():
 
 
 def chain(muxes):
-    """So many multiplexers inside one another: S0 selects the outermost one, whose row 1 ends with S1, and so on."""
+    """This many multiplexers inside one another: S0 selects the outermost one, whose row 1 ends with S1, and so on."""
     front = 'Module Net { ScanInterface client { Port SI; Port SO; } ScanInPort SI; ScanOutPort SO { Source S0; }\n'
     parts = ''.join(
         f"ScanMux m{k} SelectedBy S{k} {{ 1'b0 : SI; 1'b1 : S{k + 1}; }} "
@@ -175,7 +175,7 @@ def most_scans():
 
 
 def calls():
-    """Procedures that call one another, so many inside one another: the last one writes."""
+    """Procedures that call one another, this many inside one another: the last one writes."""
     for depth, status, err in ((64, 0, ''), (65, 3, 'refused pdl CallDepth 195:3\n')):
         procs = ''.join(f'iProc {name} {{}} {{\n  iCall c{k}\n}}\n' for k, name in enumerate(['p', *(f'c{k}' for k in range(1, depth))], 1))
         pdl = f'iProcsForModule chip\n{procs}iProc c{depth} {{}} {{\n  iWrite net.R 5\n  iApply\n}}\n'

@@ -49,7 +49,7 @@ def is_current():
 
 
 def crates_below(name):
-    """The crates that a crate stands on, and itself, in the order of crates.txt."""
+    """The crates that a crate depends on, and itself, in the order of crates.txt."""
     stands_on = {}
     for line in (TOP / 'crates.txt').read_text().splitlines():
         crate, colon, below = line.partition(':')

@@ -25,7 +25,7 @@ def stands_on():
 
 
 def below(name, lines, found):
-    """All crates of this repository that a crate stands on."""
+    """All crates of this repository that a crate depends on."""
     for it in lines[name]:
         if it in lines and it not in found:
             found.append(it)

@@ -52,7 +52,7 @@ def refusals(text):
 
 
 def refused(stage, text, folder):
-    """What the program prints where this text stands in place of the flat example's."""
+    """What the program prints where this text is in place of the flat example's."""
     names = {it: f'examples/flat/{name}' for it, name in FLAT.items()}
     whole = NETWORK % text if stage in IN_NETWORK else text
     names['icl' if stage in IN_NETWORK else stage] = 'out/given'

@@ -23,7 +23,7 @@ def prover():
 
 
 def lowest_first(crates):
-    """Each crate after those that it stands on."""
+    """Each crate after those that it depends on."""
     placed = {}
 
     def place(crate):

@@ -71,7 +71,7 @@ with tempfile.TemporaryDirectory() as folder:
     check('SVF above the limit', play(svf), (3, b'', f'refused file Long {svf}\n'.encode()))
     svf.write_bytes(text)
 
-    # so many branches of a merge that write one bit: none joins another, and each is one scan
+    # this many branches of a merge that write one bit: none joins another, and each is one scan
     pdl = folder / 'merge.pdl'
     for branches, wanted in [(GROUP_LIMIT, (0, b'', b'')), (GROUP_LIMIT + 1, (3, b'', b'refused pdl Limit 4105:3 Groups 4096\n'))]:
         pdl.write_text('iProcsForModule chip\niProc p {} {\n  iMerge -begin\n' + '  iCall q\n' * branches
@@ -80,7 +80,7 @@ with tempfile.TemporaryDirectory() as folder:
         check(f'{branches} branches', run(words), wanted)
     check('their scans', (folder / 'merge.svf').read_bytes().count(b'SDR'), GROUP_LIMIT)
 
-    # so many registers, each in a row of its own of one multiplexer, written by one iApply: a round each, in the order of their mention,
+    # this many registers, each in a row of its own of one multiplexer, written by one iApply: a round each, in the order of their mention,
     # and before each but the first a scan that opens its row, since row 0 is selected at power-up
     rows, order = 200, [(7 * i) % 200 for i in range(200)]
     icl.write_text('Module Rows {\n  ScanInPort SI; ScanOutPort SO { Source M; }\n  ScanInterface client { Port SI; Port SO; }\n'
@@ -171,7 +171,7 @@ with tempfile.TemporaryDirectory() as folder:
     check('SVF above a limit on files', (done.returncode, done.stderr), (5, f'write fault {svf}\n'.encode()))
     check('what it leaves', svf.read_bytes() == long[:at], True)
 
-    # pairs of compiles at once to one file: of equal texts, one whole text stands wherever both end well
+    # pairs of compiles at once to one file: of equal texts, one whole text is there wherever both end well
     for number in range(200):
         svf = folder / f'pair{number % 2}.svf'
         words = ['compile', FLAT / 'chip.icl', FLAT / 'chip.pdl', FLAT / 'chip.dev', 'chip', 'p', svf]
@@ -182,7 +182,7 @@ with tempfile.TemporaryDirectory() as folder:
             break
     check('pairs of compiles to one file', number, 199)
 
-    # a long report is handed to the operating system in pieces of 8 KiB: in such a pipe each write stands apart, in packets
+    # a long report is handed to the operating system in pieces of 8 KiB: in such a pipe each write is apart, in packets
     # of at most 4,096 bytes
     scan = b'SDR 65536 TDI (0) TDO (' + b'F' * 16384 + b');\n'
     svf.write_bytes(b'SIR 8 TDI (A0);\n' + scan * 4)

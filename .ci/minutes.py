@@ -7,7 +7,7 @@ It runs `rt ci` and hands on what that prints. The functions of a crate are thos
 
 --again goes on where an earlier run of this checkout ended, also one that failed or was cut off: a crate that it proved isn't proved once
 more, and the page has what that took. Each run leaves what it measured in out/minutes.json. With names it proves these crates and those
-that they stand on, and leaves the page to a run without.
+that they depend on, and leaves the page to a run without.
 
 --blank writes the page without running anything: the crates and their edits, and no numbers."""
 import collections

@@ -1,11 +1,11 @@
 #!/usr/bin/env python3
 """Draws the rings of crates.txt into docs/ARCHITECTURE.md: rings.py, at the top of a checkout.
 
-    rings.py            says whether each crate is in a ring and stands on earlier ones alone, and whether the page has this picture, each
+    rings.py            says whether each crate is in a ring and depends on earlier ones alone, and whether the page has this picture, each
                         crate's row, and of each ring a paragraph whose "Never below it: .." is true
     rings.py --write    draws the picture
 
-A line `# NAME: ..` of crates.txt begins a ring. In the picture a ring lies on those that it stands on, without those that follow from
+A line `# NAME: ..` of crates.txt begins a ring. In the picture a ring lies on those that it depends on, without those that follow from
 others. So each way from the highest ring down to the lowest is a column, and a ring has columns side by side."""
 import functools
 import itertools
@@ -24,7 +24,7 @@ wrong = []
 
 
 def read_crates():
-    """The crates of each ring, and what each crate stands on, crates of the kit too."""
+    """The crates of each ring, and what each crate depends on, crates of the kit too."""
     rings, stands_on = {}, {}
     for line in pathlib.Path('crates.txt').read_text().splitlines():
         names, colon, rest = line.partition('#')[0].partition(':')
@@ -43,7 +43,7 @@ def read_crates():
 
 
 def reach(below):
-    """All that each stands on, directly or not."""
+    """All that each depends on, directly or not."""
     found = {}
 
     def all_below(name):
@@ -56,7 +56,7 @@ def reach(below):
 
 
 def least(below):
-    """What each stands on, without what follows from others of it."""
+    """What each depends on, without what follows from others of it."""
     everything = reach(below)
     return {name: [it for it in its if not any(it in everything[other] for other in its)] for name, its in below.items()}
 
@@ -81,11 +81,11 @@ def columns_of(order):
 
 
 def arranged(below):
-    """The columns of a picture that shows all of what rings stand on, or all but one or two; and what it doesn't show."""
+    """The columns of a picture that shows all of what rings depend on, or all but one or two; and what it doesn't show."""
     several = [(ring, it) for ring, its in below.items() for it in its if len(its) > 1]
     for hidden in itertools.chain.from_iterable(itertools.combinations(several, count) for count in range(3)):
         shown = {ring: [it for it in its if (ring, it) not in hidden] for ring, its in below.items()}
-        # the one way in, from above all rings that nothing stands on
+        # the one way in, from above all rings that nothing depends on
         shown[''] = [ring for ring in reversed(below) if not any(ring in its for its in shown.values())]
         for its in itertools.product(*(itertools.permutations(its[::-1]) for its in shown.values())):
             if columns := columns_of(dict(zip(shown, its))):
@@ -177,7 +177,7 @@ def picture(rings, below):
         left = edges[layout.mine[ring][0]] + 2
         for row, text in enumerate(layout.text(ring, layout.widths), tops[ring] + 1):
             lines[row][left:left + len(text)] = text
-    lines += [f'{ring} stands on {it}, too.' for ring, it in hidden]
+    lines += [f'{ring} depends on {it}, too.' for ring, it in hidden]
     return ''.join(MARGIN + ''.join(line).rstrip() + '\n' for line in lines)
 
 
@@ -204,7 +204,7 @@ def look_at_page(page, rings, stands_on):
                     wrong.append(f'{PAGE}, {ring}: there is no {it}, or no {who}')
                     continue
                 claims += 1
-                wrong.extend(f'{PAGE}, {ring}: {a} stands on {b}' for a in mine for b in them if b in everything[a])
+                wrong.extend(f'{PAGE}, {ring}: {a} depends on {b}' for a in mine for b in them if b in everything[a])
     return claims
 
 
@@ -215,9 +215,9 @@ def main():
     on = {ring: {of_ring.get(it) for crate in its for it in stands_on[crate]} for ring, its in rings.items()}
     below = {ring: [it for it in rings if it in its and it != ring] for ring, its in on.items()}
     for ring, its in below.items():
-        wrong.extend(f'{ring} stands on {it}, which is later' for it in its if order.index(it) > order.index(ring))
+        wrong.extend(f'{ring} depends on {it}, which is later' for it in its if order.index(it) > order.index(ring))
     places = list(stands_on)
-    wrong.extend(f'{crate} stands on {it}, which is no earlier line' for crate, its in stands_on.items() for it in its
+    wrong.extend(f'{crate} depends on {it}, which is no earlier line' for crate, its in stands_on.items() for it in its
                  if it in stands_on and places.index(it) >= places.index(crate))
     wrong.extend(f'{ring} has no crate' for ring, its in rings.items() if not its)
     claims = 0

@@ -25,7 +25,7 @@ def net(out, parts, cells=CELLS):
 
 
 def sibs(count, bits):
-    """So many SIBs, each before a register of an instrument."""
+    """This many SIBs, each before a register of an instrument."""
     parts = ''.join(f'  Instance s{i} Of Sib {{ InputPort SI = {f"s{i - 1}.SO" if i else "SI"}; InputPort fromSO = w{i}.SO; }}\n'
                     f'  Instance w{i} Of Wrap {{ InputPort SI = s{i}.toSI; InputPort SEL = s{i}.toSEL; Parameter W = {bits}; }}\n' for i in range(count))
     return net(f's{count - 1}.SO', parts)
@@ -41,7 +41,7 @@ def bare_sibs(count, bits):
 
 
 def row(count):
-    """So many registers of one bit in a row."""
+    """This many registers of one bit in a row."""
     parts = ''.join(f'  ScanRegister r{i} {{ ScanInSource {f"r{i - 1}" if i else "SI"}; CaptureSource r{i}; ResetValue 1\'b0; }}\n' for i in range(count))
     return net(f'r{count - 1}', parts, '')
 

@@ -1,5 +1,5 @@
 #!/usr/bin/env python3
-"""Tells what stands in two crates: functions that are one but for the names of what they bind, and lemmas with one statement."""
+"""Says what is in two crates: functions that are one but for the names of what they bind, and lemmas with one statement."""
 import collections
 import glob
 import re
@@ -42,7 +42,7 @@ def lemmas():
 
 
 def twice(found, least):
-    """Those whose text stands in several crates."""
+    """Those whose text is in several crates."""
     places = collections.defaultdict(list)
     for crate, name, text in found:
         if len(text) >= least:
@@ -50,7 +50,7 @@ def twice(found, least):
     return [(at, text) for text, at in places.items() if len({crate for crate, _ in at}) > 1]
 
 
-# private ones of a crate that nearly all others stand on: shared when that crate changes next
+# private ones of a crate that nearly all others depend on: shared when that crate changes next
 LATER = {('mux_test', 'no_line_end'), ('mux_test', 'in_names'), ('mux_test', 'name_on_line'), ('path_planner', 'row_from_ge'),
          ('mux_test', 'meet'), ('mux_test', 'is_entry'), ('mux_test', 'row_point_there'), ('mux_test', 'path_bits'), ('mux_test', 'each-length'),
          ('path_planner', 'inner_more'), ('report', 'node_of'), ('report', 'thing_of'), ('net_graph', 'row_source'), ('net_list', 'lines_next'),

@@ -10,7 +10,7 @@ PROGRAM = "ijtag_cli"
 
 
 def stands_on():
-    """Each crate of crates.txt with the crates of this repository that it stands on."""
+    """Each crate of crates.txt with the crates of this repository that it depends on."""
     rows = [line.partition("#")[0].split(":") for line in open("crates.txt") if ":" in line.partition("#")[0]]
     names = [name.strip() for name, _ in rows]
     return {name.strip(): [it for it in rest.split() if it in names] for name, rest in rows}
@@ -42,7 +42,7 @@ def main():
         count(crate)
     unnamed = [(crate, it) for crate, its in below.items() for it in its if it not in named(crate)]
     for crate, it in unnamed:
-        print(f"ways: {crate} stands on {it}, and no file of it names it")
+        print(f"ways: {crate} depends on {it}, and no file of it names it")
     print(f"ways: {len(below)} crates, {levels[PROGRAM]} levels, {ways[PROGRAM]} ways from {PROGRAM}")
     bounds = [("crates", len(below), CRATES), ("levels", max(levels.values()), LEVELS),
               ("ways", max(ways.values()), WAYS)]

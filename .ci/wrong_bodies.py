@@ -23,7 +23,7 @@ def edits_of(crate, with_gate):
 
 
 def read_edit(path):
-    """The file that is edited, and what stands in place of what."""
+    """The file that is edited, and what is in place of what."""
     file, old, pairs = None, None, []
     for line in path.read_text().splitlines():
         if line.startswith("file: "):
