@@ -18,13 +18,13 @@ use net_graph::{Inst, Net, PortIn, PortOut};
 use table_file::Table;
 use table_lines::is;
 
-fn same_in(port: &PortIn, d: &PortDef) -> bool
+fn input_fits_def(port: &PortIn, d: &PortDef) -> bool
     ensures forth { result ≡ same_port (in_port port.now) (seen_port d.now) }
 {
     is(d.name.as_slice(), port.name.as_slice()) && port.bits.len() == d.width as usize
 }
 
-fn in_same(d: &PortDef, port: &PortIn) -> bool
+fn def_fits_input(d: &PortDef, port: &PortIn) -> bool
     ensures { result ≡ same_port (seen_port d.now) (in_port port.now) }
 {
     is(port.name.as_slice(), d.name.as_slice()) && d.width as usize == port.bits.len()
@@ -37,102 +37,102 @@ fn out_width(d: &OutDef) -> u64
     (u64::from(d.left) + 1).saturating_sub(u64::from(d.right))
 }
 
-fn same_out(port: &PortOut, d: &OutDef) -> bool
+fn output_fits_def(port: &PortOut, d: &OutDef) -> bool
     ensures { result ≡ same_port (out_port port.now) (model_out_port (seen_out d.now)) }
 {
     is(d.name.as_slice(), port.name.as_slice()) && u64::from(port.width) == out_width(d)
 }
 
-fn out_same(d: &OutDef, port: &PortOut) -> bool
+fn def_fits_output(d: &OutDef, port: &PortOut) -> bool
     ensures { result ≡ same_port (model_out_port (seen_out d.now)) (out_port port.now) }
 {
     is(port.name.as_slice(), d.name.as_slice()) && out_width(d) == u64::from(port.width)
 }
 
-fn in_among(port: &PortIn, ins: &[PortDef]) -> bool
+fn input_has_def(port: &PortIn, ins: &[PortDef]) -> bool
     ensures { result ≡ among (map seen_port ins.now) (in_port port.now) }
 {
     for x in ins {
-        if same_in(port, x) {
+        if input_fits_def(port, x) {
             return true;
         }
     }
     false
 }
 
-fn def_among(d: &PortDef, ports: &[PortIn]) -> bool
+fn def_has_input(d: &PortDef, ports: &[PortIn]) -> bool
     ensures { result ≡ among (map in_port ports.now) (seen_port d.now) }
 {
     for x in ports {
-        if in_same(d, x) {
+        if def_fits_input(d, x) {
             return true;
         }
     }
     false
 }
 
-fn out_among(port: &PortOut, outs: &[OutDef]) -> bool
+fn output_has_def(port: &PortOut, outs: &[OutDef]) -> bool
     ensures { result ≡ among (map model_out_port (map seen_out outs.now)) (out_port port.now) }
 {
     for x in outs {
-        if same_out(port, x) {
+        if output_fits_def(port, x) {
             return true;
         }
     }
     false
 }
 
-fn out_def_among(d: &OutDef, ports: &[PortOut]) -> bool
+fn def_has_output(d: &OutDef, ports: &[PortOut]) -> bool
     ensures { result ≡ among (map out_port ports.now) (model_out_port (seen_out d.now)) }
 {
     for x in ports {
-        if out_same(d, x) {
+        if def_fits_output(d, x) {
             return true;
         }
     }
     false
 }
 
-fn ins_among(ports: &[PortIn], ins: &[PortDef]) -> bool
+fn inputs_have_defs(ports: &[PortIn], ins: &[PortDef]) -> bool
     ensures { result ≡ list_all (among (map seen_port ins.now)) (map in_port ports.now) }
 {
     for x in ports {
-        if !in_among(x, ins) {
+        if !input_has_def(x, ins) {
             return false;
         }
     }
     true
 }
 
-fn defs_among(ins: &[PortDef], ports: &[PortIn]) -> bool
+fn defs_have_inputs(ins: &[PortDef], ports: &[PortIn]) -> bool
     ensures { result ≡ list_all (among (map in_port ports.now)) (map seen_port ins.now) }
 {
     for x in ins {
-        if !def_among(x, ports) {
+        if !def_has_input(x, ports) {
             return false;
         }
     }
     true
 }
 
-fn outs_among(ports: &[PortOut], outs: &[OutDef]) -> bool
+fn outputs_have_defs(ports: &[PortOut], outs: &[OutDef]) -> bool
     ensures { result
         ≡ list_all (among (map model_out_port (map seen_out outs.now))) (map out_port ports.now) }
 {
     for x in ports {
-        if !out_among(x, outs) {
+        if !output_has_def(x, outs) {
             return false;
         }
     }
     true
 }
 
-fn out_defs_among(outs: &[OutDef], ports: &[PortOut]) -> bool
+fn defs_have_outputs(outs: &[OutDef], ports: &[PortOut]) -> bool
     ensures { result
         ≡ list_all (among (map out_port ports.now)) (map model_out_port (map seen_out outs.now)) }
 {
     for x in outs {
-        if !out_def_among(x, ports) {
+        if !def_has_output(x, ports) {
             return false;
         }
     }
@@ -144,7 +144,7 @@ fn has_ins(inst: &Inst, m: &Model) -> bool
 {
     let ports = inst.ins.as_slice();
     let ins = m.ins.as_slice();
-    ins_among(ports, ins) && defs_among(ins, ports)
+    inputs_have_defs(ports, ins) && defs_have_inputs(ins, ports)
 }
 
 fn has_outs(inst: &Inst, m: &Model) -> bool
@@ -152,7 +152,7 @@ fn has_outs(inst: &Inst, m: &Model) -> bool
 {
     let ports = inst.outs.as_slice();
     let outs = m.outs.as_slice();
-    outs_among(ports, outs) && out_defs_among(outs, ports)
+    outputs_have_defs(ports, outs) && defs_have_outputs(outs, ports)
 }
 
 /// Whether a model has the ports of an instrument, in any order.

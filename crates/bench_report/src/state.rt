@@ -42,7 +42,7 @@ fn memory_of(bench: &Bench, inst: u32) -> [u64; 256]
 }
 
 /// Writes the line of an instrument.
-fn put_one<K: Sink>(
+fn put_instrument_line<K: Sink>(
     net: &Net,
     model: &Model,
     bench: &Bench,
@@ -82,7 +82,7 @@ fn put_instruments<K: Sink>(
 {
     let _running = bench.instruments();
     for i in 0..models.len() {
-        put_one(net, models.get(i), bench, i as u32, k)?;
+        put_instrument_line(net, models.get(i), bench, i as u32, k)?;
     }
     Ok(())
 }

@@ -47,7 +47,7 @@ fn wrap_name(alloc: Global, i: u32) -> Result<SureSink, OutOfMemory>
 
 /// What SIB j of instrument i scans in from: the SIB next to it outwards, or the outermost one of the
 /// instrument before, or the module's port.
-fn bound_outer(alloc: Global, i: u32, j: u32) -> Result<Bind, OutOfMemory>
+fn bind_scan_in(alloc: Global, i: u32, j: u32) -> Result<Bind, OutOfMemory>
     requires instrument { 1 ≤ i }
     requires sib { 1 ≤ j }
     ensures { IfOk result (λ bind. seen_bind bind ≡ bound (codes "SI") (outer_of i j)) }
@@ -85,7 +85,7 @@ fn add_sib(alloc: Global, i: u32, sibs: u32, j: u32, items: &mut Items) -> Resul
 {
     let inner = inner_name(alloc, i, sibs, j)?;
     let mut binds = List::new(alloc);
-    binds.push(bound_outer(alloc, i, j)?)?;
+    binds.push(bind_scan_in(alloc, i, j)?)?;
     binds.push(bound(alloc, b"fromSO", &[inner.bytes(), b"SO"])?)?;
     let name = sib_name(alloc, i, j)?;
     items.instance(name.bytes(), b"Sib", binds)

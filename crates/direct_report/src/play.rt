@@ -15,7 +15,7 @@ ghost use Rattle.net_graph.specs.Steps.{IsGroup, IsStep};
 ghost use Rattle.pdl_meaning.specs.Direct.{Direct, do_step, power_up};
 ghost use Rattle.instruments.specs.Runners.{AreModels};
 
-use crate::round::tell_rounds;
+use crate::round::play_rounds;
 use crate::state::put_values;
 use ij_bits::{List, OutOfMemory};
 use ij_io::{Sink, StoreFault};
@@ -139,7 +139,7 @@ impl<'a> DirectPlay<'a> {
             (map machine_of self.old.models) d (Apply (map seen_group rounds.now)))) }
         ensures cause { HasCause (K.faults k.old) (K.faults k.new) result StoreFault.Failed }
     {
-        let told = tell_rounds(self.net, &mut self.values, &mut self.marks, rounds, k)?;
+        let told = play_rounds(self.net, &mut self.values, &mut self.marks, rounds, k)?;
         self.reads += told.reads;
         self.differs += told.differs;
         Ok(())

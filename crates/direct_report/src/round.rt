@@ -91,7 +91,7 @@ fn put_group<K: Sink>(
 }
 
 /// Writes what a round reads, then does its writes.
-fn tell_round<K: Sink>(
+fn play_round<K: Sink>(
     net: &Net,
     values: &mut DataState,
     marks: &mut BitMarks,
@@ -128,7 +128,7 @@ fn tell_round<K: Sink>(
 }
 
 /// Writes what the rounds of an iApply read, and does them, one after the other.
-pub(crate) fn tell_rounds<K: Sink>(
+pub(crate) fn play_rounds<K: Sink>(
     net: &Net,
     values: &mut DataState,
     marks: &mut BitMarks,
@@ -163,7 +163,7 @@ pub(crate) fn tell_rounds<K: Sink>(
     let mut reads = 0u64;
     let mut differs = 0u64;
     for group in rounds {
-        let told = tell_round(net, values, marks, group, k)?;
+        let told = play_round(net, values, marks, group, k)?;
         reads += told.reads;
         differs += told.differs;
     }

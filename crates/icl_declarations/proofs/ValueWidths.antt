@@ -9,7 +9,8 @@ use Rattle.icl_declarations.specs.Values.{OpenBits, ParamValue, AnInteger, SomeB
 use Rattle.icl_declarations.specs.Values.{integer_bits}
 use Rattle.icl_declarations.specs.Sized.{fits, in_width}
 use Rattle.icl_declarations.specs.Expressions.{evaluate, place_in}
-use Rattle.icl_declarations.specs.Widths.{free_in, sized_in, lone_in, one_part, joined, parts_value, value_in}
+use Rattle.icl_declarations.specs.Widths.{fit_unsized, fit_sized, fit_number, one_part, joined, parts_value}
+use Rattle.icl_declarations.specs.Widths.{value_in}
 
 wide : (width : ℕ) (bits : OpenBits) → length (in_width width bits) ≡ width
 wide width bits = length-map-range_with_len (λ k. get_or bits k (Some false)) 0 width
@@ -19,14 +20,14 @@ abbrev IsWide : ℕ → Answer OpenBits → Type 0
 IsWide width (Ok bits) = length bits ≡ width
 IsWide width (Err e) = Unit {0}
 
-free_wide : (holder : Place) (width : ℕ) (bits : OpenBits) → IsWide width (free_in holder width bits)
+free_wide : (holder : Place) (width : ℕ) (bits : OpenBits) → IsWide width (fit_unsized holder width bits)
 free_wide holder width bits = by_test (fits width bits)
   where
     by_test : (b : Bool) → IsWide width (cond b (Ok (in_width width bits)) (Err (WidthDiffers holder)))
     by_test true = wide width bits
     by_test false = tt
 
-sized_wide : (holder : Place) (width : ℕ) (bits : OpenBits) → IsWide width (sized_in holder width bits)
+sized_wide : (holder : Place) (width : ℕ) (bits : OpenBits) → IsWide width (fit_sized holder width bits)
 sized_wide holder width bits = by_test (nat_lt width (length bits))
   where
     by_test : (b : Bool) → IsWide width (cond b (Err (WidthDiffers holder)) (Ok (in_width width bits)))
@@ -34,7 +35,7 @@ sized_wide holder width bits = by_test (nat_lt width (length bits))
     by_test false = wide width bits
 
 lone_wide : (holder at : Place) (width : ℕ) (value : ParamValue)
-    → IsWide width (lone_in holder at width value)
+    → IsWide width (fit_number holder at width value)
 lone_wide holder at width (AnInteger n) = free_wide holder width (integer_bits n)
 lone_wide holder at width (SomeBits false bits) = free_wide holder width bits
 lone_wide holder at width (SomeBits true bits) = sized_wide holder width bits
@@ -48,14 +49,14 @@ then_wide width (Err e) next h = tt
 parts_wide : (ps : Params) (holder : Place) (width : ℕ) (es : List SeenExpr)
     → IsWide width (parts_value ps holder width es)
 parts_wide ps holder width es = then_wide width (each (one_part ps holder) es)
-    (λ parts. sized_in holder width (joined parts)) (λ parts. sized_wide holder width (joined parts))
+    (λ parts. fit_sized holder width (joined parts)) (λ parts. sized_wide holder width (joined parts))
 
 value_is_wide : (ps : Params) (holder : Place) (width : ℕ) (es : List SeenExpr)
     → IsWide width (value_in ps holder width es)
 unfolding value_in
 value_is_wide ps holder width [] = parts_wide ps holder width []
 value_is_wide ps holder width (e ∷ []) = then_wide width (evaluate ps holder e)
-    (lone_in holder (place_in holder e) width) (λ value. lone_wide holder (place_in holder e) width value)
+    (fit_number holder (place_in holder e) width) (λ value. lone_wide holder (place_in holder e) width value)
 value_is_wide ps holder width (e ∷ f ∷ es) = parts_wide ps holder width (e ∷ f ∷ es)
 
 pub value_wide : (ps : Params) (holder : Place) (width : ℕ) (es : List SeenExpr) (bits : OpenBits)

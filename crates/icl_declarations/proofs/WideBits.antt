@@ -7,7 +7,7 @@ use Rattle.ij_text.specs.Numbers.{InBits, IsWide, bits_in}
 use Rattle.std.specs.Option.{unwrap_or}
 use Rattle.ij_text.specs.declared.Place.{Place}
 use Rattle.icl_declarations.specs.Faults.{Answer, WidthDiffers}
-use Rattle.icl_declarations.specs.Widths.{sized_in}
+use Rattle.icl_declarations.specs.Widths.{fit_sized}
 use Rattle.icl_declarations.specs.Sized.{is_zero, fits, in_width, within_size, at_most_4096}
 
 zero_is : (b : Option Bool) → is_zero b ≡ true → b ≡ Some false
@@ -97,12 +97,12 @@ short_fits zero (b ∷ bits) le = absurd (omega (arith, le))
 short_fits (suc width) (b ∷ bits) le = short_fits width bits (omega (arith, le))
 
 pub sized_over : (holder : Place) (width : ℕ) (bits : List (Option Bool)) (n : ℕ) → n ≡ length bits
-    → width < n → sized_in holder width bits ≡ Err (WidthDiffers holder)
+    → width < n → fit_sized holder width bits ≡ Err (WidthDiffers holder)
 sized_over holder width bits n e lt =
     let t : nat_lt width (length bits) ≡ true = lt-ltb width (length bits) (omega (arith, e, lt)) in rw t refl
 
 pub sized_some : (holder : Place) (width : ℕ) (bits t : List (Option Bool)) (n : ℕ) → n ≡ length bits
-    → n ≤ width → Some t ≡ within_size width bits → sized_in holder width bits ≡ Ok t
+    → n ≤ width → Some t ≡ within_size width bits → fit_sized holder width bits ≡ Ok t
 sized_some holder width bits t n e le h =
     let s : nat_lt width (length bits) ≡ false = le-ltb width (length bits) (omega (arith, e, le)) in
     let f : fits width bits ≡ true = short_fits width bits (omega (arith, e, le)) in

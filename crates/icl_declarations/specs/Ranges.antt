@@ -28,24 +28,24 @@ position_of b i = (i - b.right) + (b.right - i)
 
 -- ---- what a range says
 
-abbrev pub right_or : Params → Place → ℕ → Option SeenExpr → Answer ℕ
-right_or ps at left None = Ok left
-right_or ps at left (Some e) = integer ps at e
+abbrev pub right_end : Params → Place → ℕ → Option SeenExpr → Answer ℕ
+right_end ps at left None = Ok left
+right_end ps at left (Some e) = integer ps at e
 
 -- its two indices; `[i]` is from i to i
 unfoldable pub indices : Params → SeenRange → Answer Bounds
 indices ps r = do
   left ← integer ps r.at r.left
-  right ← right_or ps r.at left r.right
+  right ← right_end ps r.at left r.right
   Ok (record { left = left; right = right })
 
 -- the range of a declaration has at most 65,536 indices
-abbrev pub few_enough : Bounds → Answer Bounds
-few_enough b = cond (nat_lt 65536 (width b)) (Err (Limit Width 65536)) (Ok b)
+abbrev pub check_width : Bounds → Answer Bounds
+check_width b = cond (nat_lt 65536 (width b)) (Err (Limit Width 65536)) (Ok b)
 
 abbrev pub declared : Params → Option SeenRange → Answer Bounds
 declared ps None = Ok one_bit
-declared ps (Some r) = indices ps r >>= few_enough
+declared ps (Some r) = indices ps r >>= check_width
 
 -- ---- what a reference names
 
@@ -60,11 +60,11 @@ abbrev pub runs_along : Bounds → Bounds → Bool
 runs_along b i = has_index b i.left && has_index b i.right && nat_le
     (position_of b i.right) (position_of b i.left)
 
-abbrev pub stretch_of : Place → Bounds → Bounds → Answer Stretch
-stretch_of at b i = cond (runs_along b i)
+abbrev pub position_range : Place → Bounds → Bounds → Answer Stretch
+position_range at b i = cond (runs_along b i)
     (Ok (record { low = position_of b i.right; high = position_of b i.left })) (Err (BadRange at))
 
 -- the positions that a reference with this range names, and all without a range
 abbrev pub named_in : Params → Bounds → Option SeenRange → Answer Stretch
 named_in ps b None = Ok (whole b)
-named_in ps b (Some r) = indices ps r >>= stretch_of r.at b
+named_in ps b (Some r) = indices ps r >>= position_range r.at b

@@ -10,20 +10,20 @@ use Rattle.icl_declarations.specs.Sized.{fits, in_width}
 use Rattle.icl_declarations.specs.Expressions.{evaluate, place_in}
 
 -- a number without a size: zeros are added or dropped on the left
-abbrev pub free_in : Place → ℕ → OpenBits → Answer OpenBits
-free_in holder width bits = cond (fits width bits) (Ok (in_width width bits)) (Err (WidthDiffers holder))
+abbrev pub fit_unsized : Place → ℕ → OpenBits → Answer OpenBits
+fit_unsized holder width bits = cond (fits width bits) (Ok (in_width width bits)) (Err (WidthDiffers holder))
 
 -- bits with a size: zeros are added on the left, and none is dropped
-abbrev pub sized_in : Place → ℕ → OpenBits → Answer OpenBits
-sized_in holder width bits =
+abbrev pub fit_sized : Place → ℕ → OpenBits → Answer OpenBits
+fit_sized holder width bits =
     cond (nat_lt width (length bits)) (Err (WidthDiffers holder)) (Ok (in_width width bits))
 
 -- a number alone
-abbrev pub lone_in : Place → Place → ℕ → ParamValue → Answer OpenBits
-lone_in holder at width (AnInteger n) = free_in holder width (integer_bits n)
-lone_in holder at width (SomeBits false bits) = free_in holder width bits
-lone_in holder at width (SomeBits true bits) = sized_in holder width bits
-lone_in holder at width (AText text) = Err (WrongKind at)
+abbrev pub fit_number : Place → Place → ℕ → ParamValue → Answer OpenBits
+fit_number holder at width (AnInteger n) = fit_unsized holder width (integer_bits n)
+fit_number holder at width (SomeBits false bits) = fit_unsized holder width bits
+fit_number holder at width (SomeBits true bits) = fit_sized holder width bits
+fit_number holder at width (AText text) = Err (WrongKind at)
 
 -- a number of a concatenation needs a size
 abbrev pub part_of : Place → ParamValue → Answer OpenBits
@@ -41,11 +41,11 @@ joined [] = []
 joined (part ∷ parts) = joined parts ++ part
 
 abbrev pub lone_value : Params → Place → ℕ → SeenExpr → Answer OpenBits
-lone_value ps holder width e = evaluate ps holder e >>= lone_in holder (place_in holder e) width
+lone_value ps holder width e = evaluate ps holder e >>= fit_number holder (place_in holder e) width
 
 abbrev pub parts_value : Params → Place → ℕ → List SeenExpr → Answer OpenBits
 parts_value ps holder width es = each (one_part ps holder) es
-    >>= λ parts. sized_in holder width (joined parts)
+    >>= λ parts. fit_sized holder width (joined parts)
 
 -- a value in the width that is wanted: a number alone, or a concatenation
 unfoldable pub value_in : Params → Place → ℕ → List SeenExpr → Answer OpenBits

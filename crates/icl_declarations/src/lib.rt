@@ -35,4 +35,4 @@ pub use ranges::{Bounds, Stretch, declared, indices, named_in, width};
 pub use scope::Scope;
 pub use taken::Taken;
 pub use value::Value;
-pub use widths::{free_in, integer_bits, sized_in, value_in};
+pub use widths::{fit_sized, fit_unsized, integer_bits, value_in};

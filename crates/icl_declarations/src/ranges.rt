@@ -5,8 +5,8 @@ ghost use Rattle.ij_text.specs.Options.{same};
 ghost use Rattle.icl_lexer.specs.Views.{seen_expr, seen_range};
 ghost use Rattle.icl_declarations.specs.Faults.{Gives};
 ghost use Rattle.icl_declarations.specs.Tables.{seen_table};
-ghost use Rattle.icl_declarations.specs.Ranges.{has_index, position_of, right_or, indices, few_enough};
-ghost use Rattle.icl_declarations.specs.Ranges.{declared, stretch_of, named_in, width};
+ghost use Rattle.icl_declarations.specs.Ranges.{has_index, position_of, right_end, indices, check_width};
+ghost use Rattle.icl_declarations.specs.Ranges.{declared, position_range, named_in, width};
 
 use crate::expressions::integer;
 use crate::fault::ElabFault;
@@ -52,14 +52,14 @@ fn position_of(b: Bounds, i: u32) -> u32
     i.abs_diff(b.right)
 }
 
-fn right_or(
+fn right_end(
     alloc: Global,
     params: &ParamTable,
     at: Place,
     left: u32,
     right: &Option<Expr>,
 ) -> Result<u32, ElabFault>
-    ensures { Gives same result (right_or (seen_table params.now) at left (option_map seen_expr right.now)) }
+    ensures { Gives same result (right_end (seen_table params.now) at left (option_map seen_expr right.now)) }
 {
     match right {
         Some(e) => integer(alloc, params, e, at),
@@ -73,12 +73,12 @@ pub fn indices(alloc: Global, params: &ParamTable, r: &Range) -> Result<Bounds, 
     ensures { Gives same result (indices (seen_table params.now) (seen_range r.now)) }
 {
     let left = integer(alloc, params, &r.ends.left, r.at)?;
-    let right = right_or(alloc, params, r.at, left, &r.ends.right)?;
+    let right = right_end(alloc, params, r.at, left, &r.ends.right)?;
     Ok(Bounds { left, right })
 }
 
-fn few_enough(b: Bounds) -> Result<Bounds, ElabFault>
-    ensures { Gives same result (few_enough b) }
+fn check_width(b: Bounds) -> Result<Bounds, ElabFault>
+    ensures { Gives same result (check_width b) }
 {
     if width(b) > 65536 {
         return Err(ElabFault::Limit {
@@ -100,14 +100,14 @@ pub fn declared(
     match range {
         Some(r) => {
             let b = indices(alloc, params, r)?;
-            few_enough(b)
+            check_width(b)
         }
         None => Ok(Bounds { left: 0, right: 0 }),
     }
 }
 
-fn stretch_of(at: Place, b: Bounds, i: Bounds) -> Result<Stretch, ElabFault>
-    ensures { Gives same result (stretch_of at b i) }
+fn position_range(at: Place, b: Bounds, i: Bounds) -> Result<Stretch, ElabFault>
+    ensures { Gives same result (position_range at b i) }
 {
     let low = position_of(b, i.right);
     let high = position_of(b, i.left);
@@ -130,7 +130,7 @@ pub fn named_in(
     match range {
         Some(r) => {
             let i = indices(alloc, params, r)?;
-            stretch_of(r.at, b, i)
+            position_range(r.at, b, i)
         }
         None => Ok(Stretch {
             low: 0,

@@ -6,7 +6,8 @@ ghost use Rattle.icl_declarations.specs.Faults.{Gives, each};
 ghost use Rattle.icl_declarations.specs.Values.{seen_value, number_bits};
 ghost use Rattle.icl_declarations.specs.Tables.{seen_table};
 ghost use Rattle.icl_declarations.specs.Expressions.{evaluate, place_in};
-ghost use Rattle.icl_declarations.specs.Widths.{free_in, sized_in, lone_in, part_of, one_part, joined};
+ghost use Rattle.icl_declarations.specs.Widths.{fit_unsized, fit_sized, fit_number, part_of, one_part};
+ghost use Rattle.icl_declarations.specs.Widths.{joined};
 ghost use Rattle.icl_declarations.specs.Widths.{lone_value, parts_value, value_in};
 
 use crate::digits::number_bits;
@@ -22,8 +23,8 @@ use std::alloc::Global;
 
 /// A number without a size in a width: zeros are added or dropped on the left. `WidthDiffers` at the holder
 /// where a 1 or an x would be dropped.
-pub fn free_in(alloc: Global, bits: Tern, width: u32, holder: Place) -> Result<Tern, ElabFault>
-    ensures { Gives tern_bits result (free_in holder width (tern_bits bits)) }
+pub fn fit_unsized(alloc: Global, bits: Tern, width: u32, holder: Place) -> Result<Tern, ElabFault>
+    ensures { Gives tern_bits result (fit_unsized holder width (tern_bits bits)) }
 {
     match fitted(alloc, bits, width)? {
         Some(bits) => Ok(bits),
@@ -33,8 +34,8 @@ pub fn free_in(alloc: Global, bits: Tern, width: u32, holder: Place) -> Result<T
 
 /// Bits with a size in a width: zeros are added on the left. `WidthDiffers` at the holder where there are
 /// more bits.
-pub fn sized_in(alloc: Global, bits: Tern, width: u32, holder: Place) -> Result<Tern, ElabFault>
-    ensures { Gives tern_bits result (sized_in holder width (tern_bits bits)) }
+pub fn fit_sized(alloc: Global, bits: Tern, width: u32, holder: Place) -> Result<Tern, ElabFault>
+    ensures { Gives tern_bits result (fit_sized holder width (tern_bits bits)) }
 {
     if bits.len() > width {
         return Err(ElabFault::WidthDiffers { at: holder });
@@ -55,25 +56,25 @@ pub fn integer_bits(alloc: Global, n: u32) -> Result<Tern, OutOfMemory>
 }
 
 /// A number alone, in a width. A text is one that is at `at`.
-fn lone_in(
+fn fit_number(
     alloc: Global,
     value: Value,
     width: u32,
     holder: Place,
     at: Place,
 ) -> Result<Tern, ElabFault>
-    ensures { Gives tern_bits result (lone_in holder at width (seen_value value)) }
+    ensures { Gives tern_bits result (fit_number holder at width (seen_value value)) }
 {
     match value {
         Value::Integer(n) => {
             let bits = integer_bits(alloc, n)?;
-            free_in(alloc, bits, width, holder)
+            fit_unsized(alloc, bits, width, holder)
         }
         Value::Bits { sized, bits } => {
             if sized {
-                sized_in(alloc, bits, width, holder)
+                fit_sized(alloc, bits, width, holder)
             } else {
-                free_in(alloc, bits, width, holder)
+                fit_unsized(alloc, bits, width, holder)
             }
         }
         Value::Text(_) => Err(ElabFault::WrongKind { at }),
@@ -168,13 +169,13 @@ fn concatenation(
     width: u32,
     holder: Place,
 ) -> Result<Tern, ElabFault>
-    ensures { Gives tern_bits result (sized_in holder width (joined (map tern_bits parts.now))) }
+    ensures { Gives tern_bits result (fit_sized holder width (joined (map tern_bits parts.now))) }
 {
     if is_longer(parts, width) {
         return Err(ElabFault::WidthDiffers { at: holder });
     }
     let bits = joined(alloc, parts)?;
-    sized_in(alloc, bits, width, holder)
+    fit_sized(alloc, bits, width, holder)
 }
 
 /// A number alone, in a width.
@@ -188,7 +189,7 @@ fn lone_value(
     ensures { Gives tern_bits result (lone_value (seen_table params.now) holder width (seen_expr e.now)) }
 {
     let value = evaluate(alloc, params, e, holder)?;
-    lone_in(alloc, value, width, holder, place_in(e, holder))
+    fit_number(alloc, value, width, holder, place_in(e, holder))
 }
 
 /// A concatenation in a width.

@@ -11,7 +11,7 @@ use Rattle.icl_elab.specs.declared.pass.CellParts.{CellParts}
 use Rattle.icl_elab.specs.Bindings.{Bound}
 use Rattle.icl_elab.specs.Hierarchy.{bindings_of, bound_at, is_this_cell}
 use Rattle.icl_references.specs.Names.{is_in}
-use Rattle.icl_elab.specs.Placing.{bound_by, bound_of, home_in, is_of_cell, parts_of}
+use Rattle.icl_elab.specs.Placing.{part_bindings, bound_of, home_in, is_of_cell, parts_of}
 use Rattle.icl_elab.specs.FoundParts.{Found}
 use Rattle.icl_elab.specs.SeenCells.{seen_pass, seen_placed}
 use Rattle.icl_elab.proofs.Bound.{first_get, none_found}
@@ -107,7 +107,7 @@ bindings_are cells c p =
     ∙ ap bound_at (found_in (λ f. is_this_cell c f.role) ps) ∙ bound_seen (find (is_of_cell c) ps)
 
 pub bound_there : (cells : List CellParts) (c p k : ℕ) → Some k ≡ home_in cells c (Some p)
-    → bound_by cells p k ≡ bindings_of (seen_pass cells) c (Some p)
+    → part_bindings cells p k ≡ bindings_of (seen_pass cells) c (Some p)
 bound_there cells c p k h = sym
     (bindings_are cells c p ∙ ap bound_of (first_get (is_of_cell c) k (parts_of (slice_get cells p)) (sym h)))
 

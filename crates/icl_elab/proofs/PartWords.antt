@@ -23,7 +23,7 @@ use Rattle.icl_declarations.specs.Widths.{value_in, joined}
 use Rattle.icl_declarations.specs.declared.ranges.Bounds.{Bounds}
 use Rattle.icl_declarations.specs.declared.ranges.Stretch.{Stretch}
 use Rattle.icl_declarations.specs.Parts.{inner_names, words_in, is_mux as is_mux_item}
-use Rattle.icl_declarations.specs.Ranges.{width, position_of, has_index, runs_along, stretch_of, whole}
+use Rattle.icl_declarations.specs.Ranges.{width, position_of, has_index, runs_along, position_range, whole}
 use Rattle.icl_declarations.specs.Ranges.{indices, named_in}
 use Rattle.icl_frames.specs.FirstPass.{Frame}
 use Rattle.icl_frames.specs.Written.{IsWrittenWhat}
@@ -223,7 +223,7 @@ module _ (frames : List Frame) (here : Here) (inner : HasInner here.frame) where
 abbrev IsLong : Stretch → Type 0
 IsLong s = s.low ≤ s.high
 
-stretch_long : (at : Place) (b i : Bounds) (s : Stretch) → stretch_of at b i ≡ Ok s → IsLong s
+stretch_long : (at : Place) (b i : Bounds) (s : Stretch) → position_range at b i ≡ Ok s → IsLong s
 stretch_long at b i s h = by_test (runs_along b i) refl h
   where
     by_test : (t : Bool) → runs_along b i ≡ t
@@ -241,7 +241,7 @@ named_long : (ps : Params) (b : Bounds) (range : Option SeenRange) (s : Stretch)
     → named_in ps b range ≡ Ok s → IsLong s
 named_long ps b None s h = let z : 0 ≤ width b - 1 = omega arith in subst IsLong (ok_is (whole b) s h) z
 named_long ps b (Some r) s h =
-    let a = both (indices ps r) (stretch_of r.at b) s h in stretch_long r.at b a.first s a.then'
+    let a = both (indices ps r) (position_range r.at b) s h in stretch_long r.at b a.first s a.then'
 
 free_none : (holder at : Place) (b bits : OpenBits) → free_number holder at None b ≡ Ok bits → ⊥
 free_none holder at b bits h = cc

@@ -43,8 +43,8 @@ abbrev pub bound_of : Option Placed → List Bound
 bound_of None = []
 bound_of (Some p) = p.bound
 
-abbrev pub bound_by : List CellParts → ℕ → ℕ → List Bound
-bound_by cells cell part = bound_of (slice_get (parts_of (slice_get cells cell)) part)
+abbrev pub part_bindings : List CellParts → ℕ → ℕ → List Bound
+part_bindings cells cell part = bound_of (slice_get (parts_of (slice_get cells cell)) part)
 
 -- ---- ports
 

@@ -8,7 +8,7 @@ ghost use Rattle.icl_lexer.specs.Views.{seen_bind, seen_range, seen_sig, seen_wh
 ghost use Rattle.icl_declarations.specs.Parts.{is_input, port_that};
 ghost use Rattle.icl_declarations.specs.Ranges.{positions, width};
 ghost use Rattle.icl_declarations.specs.Faults.{Gives, each, over};
-ghost use Rattle.icl_elab.specs.Bindings.{binds_bit, is_bound, only_one, bound_refs, bind, ref_at, refs_of};
+ghost use Rattle.icl_elab.specs.Bindings.{binds_bit, is_bound, single_ref, bound_refs, bind, ref_at, refs_of};
 ghost use Rattle.icl_elab.specs.Marks.{bound_in, is_whole_part, nowhere, seen_bound};
 ghost use Rattle.icl_references.specs.Roles.{seen_refs};
 ghost use Rattle.icl_references.specs.Signals.{scan_signal};
@@ -236,8 +236,8 @@ fn scan_signals(
 }
 
 /// The one bit of a scan port. `WidthDiffers` where there are more, or none.
-fn only_one(at: Place, refs: List<Ref>) -> Result<List<Ref>, ElabFault>
-    ensures { Gives seen_refs result (only_one [] nowhere no_frame at refs.items) }
+fn single_ref(at: Place, refs: List<Ref>) -> Result<List<Ref>, ElabFault>
+    ensures { Gives seen_refs result (single_ref [] nowhere no_frame at refs.items) }
 {
     if refs.len() == 1 {
         Ok(refs)
@@ -273,7 +273,7 @@ fn bound_refs(
 {
     if is_scan_in_port(what) {
         let refs = scan_signals(alloc, tables, here, sigs)?;
-        only_one(at, refs)
+        single_ref(at, refs)
     } else if is_data_in_port(what) {
         let wide = count_of(s)?;
         data_signals(alloc, tables, here, at, wide, sigs)

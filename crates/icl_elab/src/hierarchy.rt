@@ -14,7 +14,7 @@ ghost use Rattle.icl_references.specs.Names.{is_in};
 ghost use Rattle.icl_elab.specs.Hierarchy.{bindings_of, first_ref, hierarchy, is_this_cell, put_together};
 ghost use Rattle.icl_elab.specs.Laws.{AreNumbered, AreWired};
 ghost use Rattle.icl_elab.specs.Preorder.{AreInstances};
-ghost use Rattle.icl_elab.specs.Placing.{bound_by, cell_with, first_port, rest_ports, home_at, home_in};
+ghost use Rattle.icl_elab.specs.Placing.{part_bindings, cell_with, first_port, rest_ports, home_at, home_in};
 ghost use Rattle.icl_elab.specs.Placing.{is_of_cell, made, parent_in, part_with, parts_with, port_of};
 ghost use Rattle.icl_elab.specs.Placing.{ports_from, first_ports, other_ports, resolved, seen_cell_ports};
 ghost use Rattle.icl_elab.specs.Placing.{seen_ports};
@@ -114,14 +114,14 @@ fn homes(
 }
 
 /// What a part of a cell binds: nothing, if there is no such part.
-fn bound_by<'a>(
+fn part_bindings<'a>(
     cells: &'a [CellParts],
     nothing: &'a Bindings,
     cell: usize,
     part: usize,
 ) -> &'a Bindings
     requires { nothing.now ≡ [] }
-    ensures { result.now ≡ bound_by cells.now cell part }
+    ensures { result.now ≡ part_bindings cells.now cell part }
 {
     if cell >= cells.len() {
         return nothing;
@@ -147,7 +147,7 @@ fn bound_in_parent<'a>(
 {
     match parent {
         Some(parent) => match home {
-            Some(part) => bound_by(cells, nothing, parent as usize, part),
+            Some(part) => part_bindings(cells, nothing, parent as usize, part),
             None => nothing,
         },
         None => nothing,

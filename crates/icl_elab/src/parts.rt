@@ -31,7 +31,7 @@ pub struct Found {
 }
 
 /// A part that binds nothing.
-fn unbound(alloc: Global, part: Resolved) -> Found
+fn without_binds(alloc: Global, part: Resolved) -> Found
     ensures { seen_found result ≡ seen_resolved part }
 {
     Found {
@@ -89,11 +89,11 @@ pub fn part_found(alloc: Global, tables: &Tables, here: u32, m: &Member) -> Resu
     match &m.item.what {
         What::Port { kind, props, .. } => {
             let part = port_found(alloc, tables, here, *kind, m, props.as_slice())?;
-            Ok(unbound(alloc, part))
+            Ok(without_binds(alloc, part))
         }
         What::Register { props, .. } => {
             let part = register_found(alloc, tables, here, m, props.as_slice())?;
-            Ok(unbound(alloc, part))
+            Ok(without_binds(alloc, part))
         }
         What::Mux { select, rows } => {
             let body = mux_role(alloc, tables, here, at, select.as_slice(), rows.as_slice())?;
@@ -105,7 +105,7 @@ pub fn part_found(alloc: Global, tables: &Tables, here: u32, m: &Member) -> Resu
         }
         What::Alias { sigs, props, .. } => {
             let part = alias_found(alloc, tables, here, m, sigs.as_slice(), props.as_slice())?;
-            Ok(unbound(alloc, part))
+            Ok(without_binds(alloc, part))
         }
         What::Interface { ports } => {
             let ports = port_numbers(alloc, tables, here, at, ports.as_slice())?;

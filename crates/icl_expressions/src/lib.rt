@@ -11,7 +11,9 @@ mod stop;
 
 pub use leaves::read_decimal;
 pub use parts::{Parted, read_parted};
-pub use reading::{Parsed, before_close, begins_mark, pushed, read_mark, read_name, read_word};
+pub use reading::{
+    Parsed, before_close, begins_mark, push_parsed, read_mark, read_name, read_word,
+};
 pub use signals::{
     maybe_expr_after, maybe_range, read_expr_after, read_sig, read_sigs, read_value,
 };

@@ -30,7 +30,7 @@ pub trait Parted: Sized {
 }
 
 /// Parts with the next one, after a mark.
-fn with_next<'a, T: Parted + Drop>(
+fn read_next_part<'a, T: Parted + Drop>(
     alloc: Global,
     parts: Parsed<'a, OneOrMore<T>>,
     mark: u8,
@@ -63,7 +63,7 @@ pub(crate) fn read_following<'a, T: Parted + Drop>(
         rest: first.rest,
     };
     while begins_mark(&parts.rest, mark) {
-        parts = with_next(alloc, parts, mark)?;
+        parts = read_next_part(alloc, parts, mark)?;
     }
     Ok(parts)
 }

@@ -23,7 +23,7 @@ pub struct Parsed<'a, X> {
 
 /// A list with one more value at its end, and the tokens after the value. The first value makes room for
 /// itself alone.
-pub fn pushed<'a, X: Drop>(
+pub fn push_parsed<'a, X: Drop>(
     list: List<X>,
     read: Parsed<'a, X>,
 ) -> Result<Parsed<'a, List<X>>, OutOfMemory>

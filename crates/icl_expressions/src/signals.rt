@@ -165,7 +165,7 @@ fn read_path<'a>(
 
 /// Names with `.` between them, and maybe a range, after the first token.
 #[tactic(auto, unfolding(crate::specs::Reading::read_named_after))]
-fn named_after<'a>(
+fn read_name_and_range<'a>(
     alloc: Global,
     first: &Lexeme<'a>,
     tokens: Cursor<'a>,
@@ -196,7 +196,7 @@ fn read_named_sig<'a>(alloc: Global, tokens: Cursor<'a>) -> Result<Parsed<'a, Lo
 {
     let left = tokens.len();
     match tokens.next() {
-        Some((first, rest)) if first.is_name() => named_after(alloc, &first, rest),
+        Some((first, rest)) if first.is_name() => read_name_and_range(alloc, &first, rest),
         _ => Err(ReadStop::At(left, None)),
     }
 }

@@ -13,7 +13,7 @@ use Rattle.icl_declarations.specs.Parts.{block_named, range_in}
 use Rattle.icl_declarations.specs.Ranges.{declared}
 use Rattle.icl_declarations.specs.declared.counts.Counts.{Counts}
 use Rattle.icl_frames.specs.FirstPass.{Frame, Request, parameters, with_binding, known_block, request, Passed}
-use Rattle.icl_frames.specs.FirstPass.{Added, look_at, with_added, pass_item, nothing_passed, pass_items}
+use Rattle.icl_frames.specs.FirstPass.{Added, look_at, with_added, fold_item, nothing_passed, fold_items}
 use Rattle.icl_frames.specs.FirstPass.{finish, Progress, Entered, enter_one, enter, with_block}
 use Rattle.icl_frames.specs.FirstPass.{nothing_entered, first_pass}
 use Rattle.icl_declarations.specs.Naming.{new_names}
@@ -97,8 +97,8 @@ module _ (blocks : List SeenModule) (above : List (List ℕ)) (ps : Params) wher
       (ok_is _ l d.then') (requested item item.what r.first r.is)
 
   pass_one : (s t : Passed) (items : List SeenItem) (item : SeenItem) → ArePassed s items
-      → pass_item blocks above ps s item ≡ Ok t → ArePassed t (items ++ item ∷ [])
-  unfolding pass_item
+      → fold_item blocks above ps s item ≡ Ok t → ArePassed t (items ++ item ∷ [])
+  unfolding fold_item
   pass_one s t items item p h =
       let a = both (look_at blocks above ps s.items s.counts item) _ t h in
       let all : ArePaired (children_of items ++ cons_option (declared_by item.name item.what) [])
@@ -113,7 +113,7 @@ module _ (blocks : List SeenModule) (above : List (List ℕ)) (ps : Params) wher
       })
 
   pass_all : (s t : Passed) (items more : List SeenItem) → ArePassed s items
-      → over (pass_item blocks above ps) s more ≡ Ok t → ArePassed t (items ++ more)
+      → over (fold_item blocks above ps) s more ≡ Ok t → ArePassed t (items ++ more)
   pass_all s t items [] p h = subst (ArePassed t) (sym (append_none items))
       (subst (λ (u : Passed). ArePassed u items) (ok_is s t h) p)
     where
@@ -121,11 +121,11 @@ module _ (blocks : List SeenModule) (above : List (List ℕ)) (ps : Params) wher
       append_none [] = refl
       append_none (x ∷ l) = ap (λ m. x ∷ m) (append_none l)
   pass_all s t items (x ∷ more) p h =
-      let a = both (pass_item blocks above ps s x) _ t h in
+      let a = both (fold_item blocks above ps s x) _ t h in
       subst (ArePassed t) (append_assoc items (x ∷ []) more)
       (pass_all a.first t (items ++ x ∷ []) more (pass_one s a.first items x p a.is) a.then')
 
-  pub passed : (c : Counts) (block : SeenModule) (s : Passed) → pass_items blocks above ps c block ≡ Ok s
+  pub passed : (c : Counts) (block : SeenModule) (s : Passed) → fold_items blocks above ps c block ≡ Ok s
       → ArePaired (children_of block.items) s.requests
   passed c block s h =
       let p = pass_all (nothing_passed c) s [] block.items (record { items_are = refl; wanted = tt }) h in
@@ -146,7 +146,7 @@ entered : (blocks : List SeenModule) (above : List (List ℕ)) (parent : Option 
 unfolding enter_one
 entered blocks above parent c r e h =
     let a = both (parameters r.given r.block) _ e h in
-    let b = both (pass_items blocks above a.first c r.block) _ e a.then' in
+    let b = both (fold_items blocks above a.first c r.block) _ e a.then' in
     let d = both (finish parent r.block b.first) _ e b.then' in
     subst (IsEntered blocks parent r) (ok_is _ e d.then') (record {
       name = refl;

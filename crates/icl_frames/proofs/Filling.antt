@@ -17,12 +17,12 @@ use Rattle.icl_declarations.specs.Faults.{Answer, ◌>>=◌, refuse_if, each, ov
 use Rattle.icl_declarations.specs.Values.{Params}
 use Rattle.icl_declarations.specs.declared.counts.Counts.{Counts}
 use Rattle.icl_declarations.specs.declared.ranges.Bounds.{Bounds}
-use Rattle.icl_declarations.specs.Ranges.{width, one_bit, few_enough, indices, declared}
+use Rattle.icl_declarations.specs.Ranges.{width, one_bit, check_width, indices, declared}
 use Rattle.icl_declarations.specs.Parts.{is_part, is_register, is_mux, is_signal, is_rival, is_taken}
 use Rattle.icl_declarations.specs.Parts.{inner_names, range_in}
 use Rattle.icl_declarations.specs.Naming.{with_name, distinct, new_names}
-use Rattle.icl_frames.specs.FirstPass.{request, Passed, bounds_of, Added, look_at, with_added, pass_item}
-use Rattle.icl_frames.specs.FirstPass.{nothing_passed, pass_items}
+use Rattle.icl_frames.specs.FirstPass.{request, Passed, bounds_of, Added, look_at, with_added, fold_item}
+use Rattle.icl_frames.specs.FirstPass.{nothing_passed, fold_items}
 use Rattle.icl_declarations.specs.Counting.{count_part}
 use Rattle.icl_frames.specs.Laws.{register_bits}
 use Rattle.icl_frames.proofs.Answering.{both, ok_is}
@@ -160,7 +160,7 @@ pub record AreBounded (ps : Params) (parts : List SeenItem) (bounds : List Bound
   pub all : length bounds ≡ length parts
   pub widths : AllByRecursion (λ b. width b ≤ 65536) bounds
 
-few_are : (b c : Bounds) → few_enough b ≡ Ok c → width c ≤ 65536
+few_are : (b c : Bounds) → check_width b ≡ Ok c → width c ≤ 65536
 few_are b c h = by_test (nat_lt 65536 (width b)) refl h
   where
     by_test : (t : Bool) → nat_lt 65536 (width b) ≡ t
@@ -170,7 +170,7 @@ few_are b c h = by_test (nat_lt 65536 (width b)) refl h
 
 declared_few : (ps : Params) (r : Option SeenRange) (b : Bounds) → declared ps r ≡ Ok b → width b ≤ 65536
 declared_few ps None b h = subst (λ (d : Bounds). width d ≤ 65536) (ok_is one_bit b h) (omega arith)
-declared_few ps (Some r) b h = let a = both (indices ps r) few_enough b h in few_are a.first b a.then'
+declared_few ps (Some r) b h = let a = both (indices ps r) check_width b h in few_are a.first b a.then'
 
 each_one : {A B E : Type 0} (f : A → Result B E) (xs : List A) (ys : List B) (x : A) (y : B)
     → each f xs ≡ Ok ys → f x ≡ Ok y → each f (xs ++ x ∷ []) ≡ Ok (ys ++ y ∷ [])
@@ -316,8 +316,8 @@ module _ (blocks : List SeenModule) (above : List (List ℕ)) (ps : Params) wher
       })
 
   fill_one : (c : Counts) (s t : Passed) (items : List SeenItem) (item : SeenItem) → AreFilled ps c s items
-      → pass_item blocks above ps s item ≡ Ok t → AreFilled ps c t (items ++ item ∷ [])
-  unfolding pass_item
+      → fold_item blocks above ps s item ≡ Ok t → AreFilled ps c t (items ++ item ∷ [])
+  unfolding fold_item
   fill_one c s t items item p h =
       let a = both (look_at blocks above ps s.items s.counts item) _ t h in
       let l = looked s.items s.counts item a.first a.is in
@@ -348,16 +348,16 @@ module _ (blocks : List SeenModule) (above : List (List ℕ)) (ps : Params) wher
       })
 
   fill_all : (c : Counts) (s t : Passed) (items more : List SeenItem) → AreFilled ps c s items
-      → over (pass_item blocks above ps) s more ≡ Ok t → AreFilled ps c t (items ++ more)
+      → over (fold_item blocks above ps) s more ≡ Ok t → AreFilled ps c t (items ++ more)
   fill_all c s t items [] p h = subst (AreFilled ps c t) (sym (append-nil items))
       (subst (λ (u : Passed). AreFilled ps c u items) (ok_is s t h) p)
   fill_all c s t items (x ∷ more) p h =
-      let a = both (pass_item blocks above ps s x) _ t h in
+      let a = both (fold_item blocks above ps s x) _ t h in
       subst (AreFilled ps c t) (append_assoc items (x ∷ []) more)
       (fill_all c a.first t (items ++ x ∷ []) more (fill_one c s a.first items x p a.is) a.then')
 
   pub filled : (c : Counts) (block : SeenModule) (s : Passed)
-      → pass_items blocks above ps c block ≡ Ok s → AreFilled ps c s block.items
+      → fold_items blocks above ps c block ≡ Ok s → AreFilled ps c s block.items
   filled c block s h = fill_all c (nothing_passed c) s [] block.items
       (record {
         items_are = refl;

@@ -13,7 +13,7 @@ use Rattle.icl_declarations.specs.declared.ranges.Bounds.{Bounds}
 use Rattle.icl_declarations.specs.Ranges.{width}
 use Rattle.icl_declarations.specs.Parts.{port_that, is_data_in, is_data_out, is_data_port, is_instrument}
 use Rattle.icl_declarations.specs.Parts.{block_named, parts_of}
-use Rattle.icl_frames.specs.FirstPass.{Frame, Request, parameters, known_block, Passed, pass_items, finish}
+use Rattle.icl_frames.specs.FirstPass.{Frame, Request, parameters, known_block, Passed, fold_items, finish}
 use Rattle.icl_frames.specs.FirstPass.{Progress, Entered, enter_one, enter, with_block, nothing_entered}
 use Rattle.icl_frames.specs.FirstPass.{first_pass}
 use Rattle.icl_declarations.specs.Counting.{ports_over, has_wide_port, count_instrument}
@@ -102,7 +102,7 @@ one_cell : (blocks : List SeenModule) (above : List (List ℕ)) (parent : Option
 unfolding enter_one
 one_cell blocks above parent c r e h =
     let a = both (parameters r.given r.block) _ e h in
-    let b = both (pass_items blocks above a.first c r.block) _ e a.then' in
+    let b = both (fold_items blocks above a.first c r.block) _ e a.then' in
     let d = both (finish parent r.block b.first) _ e b.then' in
     let f = filled blocks above a.first c r.block b.first b.is in
     let g = finished_so (is_some parent && is_instrument r.block) r.block b.first d.first d.is in

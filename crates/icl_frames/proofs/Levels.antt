@@ -6,7 +6,7 @@ use Rattle.ij_text.specs.declared.Which.TheVariants.{Hierarchy, Cells}
 use Rattle.icl_lexer.specs.Values.{SeenModule}
 use Rattle.icl_declarations.specs.Faults.{Answer, Fault, Fails, ◌>>=◌, refuse_if, over, Limit}
 use Rattle.icl_frames.specs.FirstPass.{Request, Progress, Entered, enter_one, enter}
-use Rattle.icl_frames.specs.SeenFrames.{Stepped, with_cell}
+use Rattle.icl_frames.specs.SeenFrames.{Stepped, add_cell}
 
 pub no_level : (levels : ℕ) (blocks : List SeenModule) (above : List (List ℕ)) (parent : Option ℕ)
     (s : Progress) (r : Request) → levels ≡ 0
@@ -23,8 +23,8 @@ below levels blocks inside cell a =
 one_level : (levels : ℕ) (blocks : List SeenModule) (above : List (List ℕ))
     (parent : Option ℕ) (s : Progress) (r : Request)
     → enter (suc levels) blocks above parent s r ≡ below levels blocks (r.block.name ∷ above)
-    (length s.frames) (with_cell blocks (r.block.name ∷ above) parent s r)
-unfolding enter with_cell
+    (length s.frames) (add_cell blocks (r.block.name ∷ above) parent s r)
+unfolding enter add_cell
 one_level levels blocks above parent s r = by_room (nat_le 8192 (length s.frames))
   where
     next : Entered → Answer Progress
@@ -50,7 +50,7 @@ one_level levels blocks above parent s r = by_room (nat_le 8192 (length s.frames
 pub a_level : (levels : ℕ) (blocks : List SeenModule) (above inside : List (List ℕ)) (parent : Option ℕ)
     (s : Progress) (r : Request) → 0 < levels → inside ≡ r.block.name ∷ above
     → enter levels blocks above parent s r
-    ≡ below (levels - 1) blocks inside (length s.frames) (with_cell blocks inside parent s r)
+    ≡ below (levels - 1) blocks inside (length s.frames) (add_cell blocks inside parent s r)
 a_level zero blocks above inside parent s r lt e = absurd (omega (arith, lt))
 a_level (suc levels) blocks above inside parent s r lt e =
     rw e (let n : suc levels - 1 ≡ levels = omega arith in rw n (one_level levels blocks above parent s r))

@@ -115,15 +115,15 @@ with_added s item a = record {
   counts = a.counts;
 }
 
-unfoldable pub pass_item : List SeenModule → List (List ℕ) → Params → Passed → SeenItem → Answer Passed
-pass_item blocks above ps s item =
+unfoldable pub fold_item : List SeenModule → List (List ℕ) → Params → Passed → SeenItem → Answer Passed
+fold_item blocks above ps s item =
     look_at blocks above ps s.items s.counts item >>= λ a. Ok (with_added s item a)
 
 abbrev pub nothing_passed : Counts → Passed
 nothing_passed c = record { items = []; bounds = []; requests = []; counts = c }
 
-abbrev pub pass_items : List SeenModule → List (List ℕ) → Params → Counts → SeenModule → Answer Passed
-pass_items blocks above ps c block = over (pass_item blocks above ps) (nothing_passed c) block.items
+abbrev pub fold_items : List SeenModule → List (List ℕ) → Params → Counts → SeenModule → Answer Passed
+fold_items blocks above ps c block = over (fold_item blocks above ps) (nothing_passed c) block.items
 
 -- ---- instruments
 
@@ -148,7 +148,7 @@ pub record Entered : Type 0 where
 unfoldable pub enter_one : List SeenModule → List (List ℕ) → Option ℕ → Counts → Request → Answer Entered
 enter_one blocks above parent c r = do
   ps ← parameters r.given r.block
-  s ← pass_items blocks above ps c r.block
+  s ← fold_items blocks above ps c r.block
   counts ← finish parent r.block s
   Ok (record {
     frame = record {

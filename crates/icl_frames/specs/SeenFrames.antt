@@ -88,8 +88,8 @@ abbrev pub seen_stepped : SteppedAt → Stepped
 seen_stepped w = record { progress = seen_progress w.progress; requests = map seen_request w.requests.items }
 
 -- what `enter` does before it goes below a cell, which is in these modules, its own among them
-unfoldable pub with_cell : List SeenModule → List (List ℕ) → Option ℕ → Progress → Request → Answer Stepped
-with_cell blocks above parent s r = do
+unfoldable pub add_cell : List SeenModule → List (List ℕ) → Option ℕ → Progress → Request → Answer Stepped
+add_cell blocks above parent s r = do
   room ← refuse_if (nat_le 8192 (length s.frames)) (Limit Cells 8192)
   e ← enter_one blocks above parent s.counts r
   Ok (record {

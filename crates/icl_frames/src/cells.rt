@@ -7,13 +7,13 @@ ghost use Rattle.icl_declarations.specs.Faults.{Gives, refuse_if, over, Limit};
 ghost use Rattle.icl_declarations.specs.Scopes.{entry_of};
 ghost use Rattle.ij_text.specs.declared.Which.TheVariants.{Cells};
 ghost use Rattle.icl_declarations.specs.Tables.{seen_table};
-ghost use Rattle.icl_frames.specs.FirstPass.{with_block, parameters, pass_items, finish, enter_one, enter};
+ghost use Rattle.icl_frames.specs.FirstPass.{with_block, parameters, fold_items, finish, enter_one, enter};
 ghost use Rattle.icl_frames.specs.FirstPass.{first_pass};
 ghost use Rattle.icl_frames.specs.SeenFrames.{names_of, seen_passed, seen_request, seen_frame, seen_entered};
-ghost use Rattle.icl_frames.specs.SeenFrames.{seen_progress, seen_stepped, finished, entered_next, with_cell};
+ghost use Rattle.icl_frames.specs.SeenFrames.{seen_progress, seen_stepped, finished, entered_next, add_cell};
 
 use crate::ElabFault;
-use crate::frames::{Passed, Request, pass_items};
+use crate::frames::{Passed, Request, fold_items};
 use crate::instances::known_block;
 use crate::params::parameters;
 use icl_declarations::{Bounds, Counts, ParamTable, Scope, count_instrument, is_instrument};
@@ -93,10 +93,10 @@ fn own_items<'a>(
     requires { counts.bits ≤ 4096 }
     ensures few { IfOk result (λ s. s.counts.bits ≤ 4096) }
     ensures gives { Gives (seen_passed (map seen_item block.now.items.items)) result
-        (pass_items (map seen_module modules.now) (names_of above.now)
+        (fold_items (map seen_module modules.now) (names_of above.now)
         (seen_table params.now) counts (seen_module block.now)) }
 {
-    pass_items(
+    fold_items(
         alloc,
         modules,
         above,
@@ -203,7 +203,7 @@ pub struct Stepped<'a> {
 }
 
 /// The cells with one more, which is entered already.
-fn with_entered<'a>(
+fn push_entered<'a>(
     state: Progress<'a>,
     cell: u32,
     entered: Entered<'a>,
@@ -259,8 +259,8 @@ fn entered_next<'a>(
 }
 
 /// The cells with that of an instance, which is in these modules, its own among them.
-#[tactic(auto, unfolding(crate::specs::SeenFrames::with_cell))]
-fn with_cell<'a>(
+#[tactic(auto, unfolding(crate::specs::SeenFrames::add_cell))]
+fn add_cell<'a>(
     alloc: Global,
     modules: &'a [Module],
     above: &[&'a Module],
@@ -271,11 +271,11 @@ fn with_cell<'a>(
     requires { state.counts.bits ≤ 4096 }
     ensures few { IfOk result (λ w. w.progress.counts.bits ≤ 4096) }
     ensures number { IfOk result (λ w. w.cell ≡ length (map seen_frame state.entry.frames.items)) }
-    ensures gives { Gives seen_stepped result (with_cell (map seen_module modules.now)
+    ensures gives { Gives seen_stepped result (add_cell (map seen_module modules.now)
         (names_of above.now) parent (seen_progress state.entry) (seen_request request.now)) }
 {
     match entered_next(alloc, modules, above, parent, &state, request) {
-        Ok((cell, entered)) => with_entered(state, cell, entered),
+        Ok((cell, entered)) => push_entered(state, cell, entered),
         Err(e) => {
             drop(state);
             Err(e)
@@ -301,7 +301,7 @@ fn add_modules<'a>(
 }
 
 /// The modules that the cells inside a cell of a module stand in: that module and those above it.
-fn with_module<'a>(
+fn modules_around<'a>(
     alloc: Global,
     block: &'a Module,
     above: &[&'a Module],
@@ -341,8 +341,8 @@ fn enter<'a>(
             number: 64,
         });
     }
-    let inside = with_module(alloc, request.block, above)?;
-    let stepped = with_cell(alloc, modules, inside.as_slice(), parent, state, request)?;
+    let inside = modules_around(alloc, request.block, above)?;
+    let stepped = add_cell(alloc, modules, inside.as_slice(), parent, state, request)?;
     let cell = stepped.cell;
     let requests = stepped.requests;
     let mut cells = stepped.progress;

@@ -7,7 +7,7 @@ ghost use Rattle.icl_lexer.specs.Values.{SeenItem, AChild};
 ghost use Rattle.icl_lexer.specs.Views.{seen_what, seen_item, seen_module, seen_bind};
 ghost use Rattle.icl_declarations.specs.Faults.{Gives, over};
 ghost use Rattle.icl_declarations.specs.Tables.{seen_table};
-ghost use Rattle.icl_frames.specs.FirstPass.{request, bounds_of, look_at, with_added, pass_item};
+ghost use Rattle.icl_frames.specs.FirstPass.{request, bounds_of, look_at, with_added, fold_item};
 ghost use Rattle.icl_frames.specs.FirstPass.{nothing_passed};
 ghost use Rattle.icl_declarations.specs.Parts.{range_in};
 ghost use Rattle.icl_declarations.specs.Ranges.{declared};
@@ -201,7 +201,7 @@ fn add<'a>(
 }
 
 /// Adds one item more to what is known.
-#[tactic(auto, unfolding(crate::specs::FirstPass::pass_item))]
+#[tactic(auto, unfolding(crate::specs::FirstPass::fold_item))]
 fn add_item<'a>(
     alloc: Global,
     modules: &'a [Module],
@@ -215,7 +215,7 @@ fn add_item<'a>(
     ensures taken { OnOk result ((items : List SeenItem) → AreTaken state.old.taken items
         → AreTaken state.new.taken (items ++ seen_item item.now ∷ [])) }
     ensures gives { (items : List SeenItem) → AreTaken state.old.taken items → Gives (λ u. seen_passed
-        (items ++ seen_item item.now ∷ []) state.new) result (pass_item (map seen_module modules.now)
+        (items ++ seen_item item.now ∷ []) state.new) result (fold_item (map seen_module modules.now)
         (names_of above.now) (seen_table params.now) (seen_passed items state.old) (seen_item item.now)) }
 {
     let added = look_at(
@@ -231,7 +231,7 @@ fn add_item<'a>(
 }
 
 /// One item more.
-fn pass_item<'a>(
+fn fold_item<'a>(
     alloc: Global,
     modules: &'a [Module],
     above: &[&Module],
@@ -244,7 +244,7 @@ fn pass_item<'a>(
     ensures taken { IfOk result (λ s. (items : List SeenItem) → AreTaken state.entry.taken items
         → AreTaken s.taken (items ++ seen_item item.now ∷ [])) }
     ensures gives { (items : List SeenItem) → AreTaken state.entry.taken items → Gives
-        (seen_passed (items ++ seen_item item.now ∷ [])) result (pass_item (map seen_module modules.now)
+        (seen_passed (items ++ seen_item item.now ∷ [])) result (fold_item (map seen_module modules.now)
         (names_of above.now) (seen_table params.now) (seen_passed items state.entry) (seen_item item.now)) }
 {
     let mut state = state;
@@ -259,7 +259,7 @@ fn pass_item<'a>(
 }
 
 /// The items of a module.
-pub fn pass_items<'a>(
+pub fn fold_items<'a>(
     alloc: Global,
     modules: &'a [Module],
     above: &[&Module],
@@ -270,7 +270,7 @@ pub fn pass_items<'a>(
     requires { counts.bits ≤ 4096 }
     ensures few { IfOk result (λ s. s.counts.bits ≤ 4096) }
     ensures gives { Gives (seen_passed (map seen_item items.now)) result
-        (over (pass_item (map seen_module modules.now) (names_of above.now) (seen_table params.now))
+        (over (fold_item (map seen_module modules.now) (names_of above.now) (seen_table params.now))
         (nothing_passed counts) (map seen_item items.now)) }
 {
     let mut state = Passed {
@@ -280,7 +280,7 @@ pub fn pass_items<'a>(
         counts,
     };
     for item in items {
-        state = pass_item(alloc, modules, above, params, state, item)?;
+        state = fold_item(alloc, modules, above, params, state, item)?;
     }
     Ok(state)
 }

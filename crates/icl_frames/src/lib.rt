@@ -9,7 +9,7 @@ mod laws;
 mod params;
 
 pub use cells::{Frame, first_pass};
-pub use frames::{Added, Passed, Request, pass_items};
+pub use frames::{Added, Passed, Request, fold_items};
 pub use icl_declarations::{
     Bounds, Counts, ElabFault, Scope, Stretch, Taken, count_instrument, count_part, declared,
     indices, is_child, is_data_in_port, is_data_out_port, is_data_port, is_enum, is_input,

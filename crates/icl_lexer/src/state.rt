@@ -42,7 +42,7 @@ pub(crate) enum State {
 }
 
 /// The state where the test holds, and else none that leads to a piece.
-fn only_if(test: bool, state: State) -> State
+fn state_if(test: bool, state: State) -> State
     ensures { (bs : List ℕ) → kind_from result bs ≡ cond test (kind_from state bs) None }
 {
     if test { state } else { State::Dead }
@@ -73,7 +73,7 @@ fn begin_other(b: u8) -> State
         b'\'' => State::Apostrophe,
         b'"' => State::Quoted,
         b'/' => State::Slash,
-        _ => only_if(is_mark(b), State::Whole(PieceKind::Is(TokenKind::Mark))),
+        _ => state_if(is_mark(b), State::Whole(PieceKind::Is(TokenKind::Mark))),
     }
 }
 
@@ -85,7 +85,7 @@ fn go_on_size(in_class: bool, state: State, b: u8) -> State
     if in_class {
         state
     } else {
-        only_if(b == b'\'', State::Apostrophe)
+        state_if(b == b'\'', State::Apostrophe)
     }
 }
 
@@ -136,17 +136,17 @@ impl State {
     {
         match self {
             State::Start => begin(b),
-            State::Word => only_if(in_name(b), State::Word),
+            State::Word => state_if(in_name(b), State::Word),
             State::Decimal => go_on_size(in_decimal(b), State::Decimal, b),
-            State::Dollar => only_if(begins_name(b), State::Parameter),
+            State::Dollar => state_if(begins_name(b), State::Parameter),
             State::Parameter => go_on_size(in_name(b), State::Parameter, b),
-            State::Apostrophe => only_if(is_base(b), State::Base),
-            State::Base => only_if(is_digit_x(b), State::Digits),
-            State::Digits => only_if(in_digits(b), State::Digits),
+            State::Apostrophe => state_if(is_base(b), State::Base),
+            State::Base => state_if(is_digit_x(b), State::Digits),
+            State::Digits => state_if(in_digits(b), State::Digits),
             State::Quoted => go_on_text(b),
             State::Backslash => State::Quoted,
             State::Slash => go_on_slash(b),
-            State::Line => only_if(b != b'\n', State::Line),
+            State::Line => state_if(b != b'\n', State::Line),
             State::Block => go_on_block(b),
             State::Star => go_on_star(b),
             State::Whole(_) => State::Dead,

@@ -15,8 +15,8 @@ ghost use Rattle.icl_parser.specs.Reading.{read_braced_body, read_body};
 
 use crate::words::prop_word;
 use icl_expressions::{
-    Parsed, ReadStop, before_close, begins_mark, maybe_expr_after, pushed, read_decimal, read_mark,
-    read_name, read_sig, read_sigs, read_value,
+    Parsed, ReadStop, before_close, begins_mark, maybe_expr_after, push_parsed, read_decimal,
+    read_mark, read_name, read_sig, read_sigs, read_value,
 };
 use icl_lexer::{BodyKind, Cursor, Expr, Lexeme, Prop, PropKeyword, Sig, SmallText};
 use ij_bits::{List, OutOfMemory, beside};
@@ -146,7 +146,7 @@ fn one_sig<'a>(alloc: Global, tokens: Cursor<'a>) -> Result<Parsed<'a, List<Sig>
     ensures gives { Gives (seen_read (seen_list seen_sig)) result (read_one_sig tokens.entry) }
 {
     let sig = read_sig(alloc, tokens)?;
-    Ok(pushed(List::new(alloc), sig)?)
+    Ok(push_parsed(List::new(alloc), sig)?)
 }
 
 /// The source of a port: one signal of a `ScanOutPort`.
@@ -285,7 +285,7 @@ fn with<'a>(
 {
     let rest = next.rest;
     match next.value {
-        Some(value) => pushed(props, Parsed { value, rest }),
+        Some(value) => push_parsed(props, Parsed { value, rest }),
         None => Ok(Parsed { value: props, rest }),
     }
 }

@@ -5,7 +5,7 @@ ghost use Rattle.ij_text.specs.Symbol.{appended};
 ghost use Rattle.icl_expressions.specs.Seen.{seen_read, Gives};
 ghost use Rattle.icl_expressions.specs.Reading.{Reading, Shrinks, read_put, more, read_many, read_braced};
 
-use icl_expressions::{Parsed, ReadStop, before_close, pushed, read_mark};
+use icl_expressions::{Parsed, ReadStop, before_close, push_parsed, read_mark};
 use icl_lexer::Cursor;
 use ij_bits::{List, beside};
 use std::alloc::Global;
@@ -27,7 +27,7 @@ pub(crate) trait Entry: Sized {
 }
 
 /// Entries with the next one.
-pub(crate) fn with_next<'a, T: Entry + Drop>(
+pub(crate) fn read_next_entry<'a, T: Entry + Drop>(
     alloc: Global,
     entries: Parsed<'a, List<T>>,
 ) -> Result<Parsed<'a, List<T>>, ReadStop>
@@ -36,7 +36,7 @@ pub(crate) fn with_next<'a, T: Entry + Drop>(
         (read_put T.reader appended (seen_list T.view entries.entry.value) entries.entry.rest) }
 {
     let (values, next) = beside(entries.value, T::read(alloc, entries.rest))?;
-    Ok(pushed(values, next)?)
+    Ok(push_parsed(values, next)?)
 }
 
 /// Entries with those that follow, up to a `}` or the end of the tokens.
@@ -51,7 +51,7 @@ pub(crate) fn read_after<'a, T: Entry + Drop>(
 {
     let mut entries = first;
     while before_close(&entries.rest) {
-        entries = with_next(alloc, entries)?;
+        entries = read_next_entry(alloc, entries)?;
     }
     Ok(entries)
 }

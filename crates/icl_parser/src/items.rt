@@ -17,7 +17,7 @@ use crate::bodies::{read_attribute_said, read_body};
 use crate::entries::{Entry, read_after, read_braced};
 use crate::words::bind_word;
 use icl_expressions::{
-    Parsed, ReadStop, begins_mark, maybe_expr_after, maybe_range, pushed, read_expr_after,
+    Parsed, ReadStop, begins_mark, maybe_expr_after, maybe_range, push_parsed, read_expr_after,
     read_mark, read_name, read_parted, read_sig, read_sigs, read_word,
 };
 use icl_lexer::{Bind, BindKeyword, BodyKind, Cursor, MuxRow, PortKind, Range, What};
@@ -197,7 +197,7 @@ fn read_rows<'a>(alloc: Global, tokens: Cursor<'a>) -> Result<Parsed<'a, List<Mu
     ensures gives { Gives (seen_read (seen_list seen_row)) result (read_rows tokens.entry) }
 {
     let first = MuxRow::read(alloc, tokens)?;
-    let rows = pushed(List::new(alloc), first)?;
+    let rows = push_parsed(List::new(alloc), first)?;
     read_after(alloc, rows)
 }
 

@@ -18,7 +18,7 @@ use crate::bodies::read_attribute_said;
 use crate::entries::{Entry, read_braced, read_many};
 use crate::words::{link_kind, member_word};
 use icl_expressions::{
-    Parsed, ReadStop, before_close, pushed, read_mark, read_name, read_value, read_word,
+    Parsed, ReadStop, before_close, push_parsed, read_mark, read_name, read_value, read_word,
 };
 use icl_lexer::{Cursor, EnumWord, LinkInstr, LinkKind, MemberKeyword, SmallText, What};
 use ij_bits::{List, OutOfMemory, beside};
@@ -139,7 +139,7 @@ fn with<'a>(
 {
     let rest = next.rest;
     match next.value {
-        Some(value) => pushed(names, Parsed { value, rest }),
+        Some(value) => push_parsed(names, Parsed { value, rest }),
         None => Ok(Parsed { value: names, rest }),
     }
 }

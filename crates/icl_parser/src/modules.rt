@@ -8,7 +8,7 @@ ghost use Rattle.icl_parser.specs.SeenParts.{seen_item_begin};
 ghost use Rattle.icl_parser.specs.Reading.{read_item_begin, read_meaning_after, read_item, read_module};
 ghost use Rattle.icl_parser.specs.Reading.{whole_design};
 
-use crate::entries::{Entry, read_braced, with_next};
+use crate::entries::{Entry, read_braced, read_next_entry};
 use crate::items::{
     read_alias, read_attribute, read_child, read_mux, read_parameter, read_port, read_register,
 };
@@ -129,7 +129,7 @@ pub(crate) fn read_design<'a>(alloc: Global, tokens: Cursor<'a>) -> Result<List<
         rest: tokens,
     };
     while !modules.rest.is_empty() {
-        modules = with_next(alloc, modules)?;
+        modules = read_next_entry(alloc, modules)?;
     }
     Ok(modules.value)
 }

@@ -17,7 +17,7 @@ use Rattle.icl_references.specs.Names.{Here, path_from}
 use Rattle.icl_references.specs.Signals.{bit_of, bits_of, is_scan_source, is_data_source, scan_meant}
 use Rattle.icl_references.specs.Signals.{scan_signal, scan_path, scan_named, data_signal, data_signals}
 use Rattle.icl_references.specs.Signals.{select_signals, alias_signals, data_meant, data_path, alias_meant}
-use Rattle.icl_references.specs.Signals.{alias_path, constants, side_by_side, as_wide, lone_width}
+use Rattle.icl_references.specs.Signals.{alias_path, constants, side_by_side, require_width, lone_width}
 use Rattle.icl_references.specs.Signals.{number_bits}
 use Rattle.icl_frames.proofs.Answering.{both, ok_is, each_all, all_joined, all_map}
 use Rattle.icl_references.proofs.Targets.{IsHere, IsThere, path_there, named_within, bit_there, bits_there}
@@ -81,7 +81,7 @@ module _ (frames : List Frame) (here : Here) (is_here : IsHere frames here) wher
 
   -- as wide as is wanted
   wide_is : (holder : Place) (width : ℕ) (refs rs : List Ref)
-      → as_wide holder width refs ≡ Ok rs → (refs ≡ rs) × (length rs ≡ width)
+      → require_width holder width refs ≡ Ok rs → (refs ≡ rs) × (length rs ≡ width)
   wide_is holder width refs rs h = by_test (length refs == width) refl h
     where
       by_test : (b : Bool) → (length refs == width) ≡ b

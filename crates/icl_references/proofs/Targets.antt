@@ -15,7 +15,7 @@ use Rattle.icl_declarations.specs.declared.ranges.Bounds.{Bounds}
 use Rattle.icl_declarations.specs.declared.ranges.Stretch.{Stretch}
 use Rattle.icl_references.specs.declared.hier.Ref.{Ref}
 use Rattle.icl_references.specs.declared.hier.Ref.TheVariants.{Fixed, Bit}
-use Rattle.icl_declarations.specs.Ranges.{width, has_index, position_of, runs_along, stretch_of, whole}
+use Rattle.icl_declarations.specs.Ranges.{width, has_index, position_of, runs_along, position_range, whole}
 use Rattle.icl_declarations.specs.Ranges.{indices, named_in, one_bit}
 use Rattle.icl_frames.specs.FirstPass.{Frame}
 use Rattle.icl_references.specs.Names.{Here, here_of, Member, members_from, members, member_that}
@@ -185,7 +185,7 @@ index_within b i h =
 abbrev pub IsWithin : Bounds → Stretch → Type 0
 IsWithin b s = s.high < width b
 
-stretch_within : (at : Place) (b i : Bounds) (s : Stretch) → stretch_of at b i ≡ Ok s → IsWithin b s
+stretch_within : (at : Place) (b i : Bounds) (s : Stretch) → position_range at b i ≡ Ok s → IsWithin b s
 stretch_within at b i s h = by_test (runs_along b i) refl h
   where
     by_test : (t : Bool) → runs_along b i ≡ t → cond {A = Answer Stretch} t
@@ -202,7 +202,7 @@ pub named_within : (ps : Params) (b : Bounds) (range : Option SeenRange) (s : St
     → named_in ps b range ≡ Ok s → IsWithin b s
 named_within ps b None s h = subst (IsWithin b) (ok_is (whole b) s h) (omega arith)
 named_within ps b (Some r) s h =
-    let a = both (indices ps r) (stretch_of r.at b) s h in stretch_within r.at b a.first s a.then'
+    let a = both (indices ps r) (position_range r.at b) s h in stretch_within r.at b a.first s a.then'
 
 -- ---- bits that are there
 

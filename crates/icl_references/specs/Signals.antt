@@ -12,7 +12,7 @@ use Rattle.icl_declarations.specs.Faults.{WrongKind}
 use Rattle.icl_declarations.specs.Values.{OpenBits, ParamValue, AnInteger, SomeBits, AText, Params}
 use Rattle.icl_declarations.specs.Values.{integer_bits}
 use Rattle.icl_declarations.specs.Expressions.{evaluate, place_in}
-use Rattle.icl_declarations.specs.Widths.{free_in, sized_in, joined}
+use Rattle.icl_declarations.specs.Widths.{fit_unsized, fit_sized, joined}
 use Rattle.icl_references.specs.declared.hier.Ref.{Ref}
 use Rattle.icl_references.specs.declared.hier.Ref.TheVariants.{Fixed, Bit}
 use Rattle.icl_declarations.specs.Parts.{is_scan_in, is_scan_out, is_data_in, is_data_out, port_that}
@@ -58,11 +58,11 @@ is_data_source path what = (is_own path && (is_register what || port_that is_dat
 -- a number without a size is one alone, where a width is wanted
 abbrev pub free_number : Place → Place → Option ℕ → OpenBits → Answer OpenBits
 free_number holder at None bits = Err (WrongKind at)
-free_number holder at (Some width) bits = free_in holder width bits
+free_number holder at (Some width) bits = fit_unsized holder width bits
 
 abbrev pub sized_number : Place → Option ℕ → OpenBits → Answer OpenBits
 sized_number holder None bits = Ok bits
-sized_number holder (Some width) bits = sized_in holder width bits
+sized_number holder (Some width) bits = fit_sized holder width bits
 
 abbrev pub closed : Place → OpenBits → Answer (Unit {0})
 closed at bits = refuse_if (not (list_all is_some bits)) (BadNumber at)
@@ -88,8 +88,8 @@ abbrev pub lone_width : ℕ → List SeenSig → Option ℕ
 lone_width width (s ∷ []) = Some width
 lone_width width ss = None
 
-abbrev pub as_wide : Place → ℕ → List Ref → Answer (List Ref)
-as_wide holder width refs = cond (length refs == width) (Ok refs) (Err (WidthDiffers holder))
+abbrev pub require_width : Place → ℕ → List Ref → Answer (List Ref)
+require_width holder width refs = cond (length refs == width) (Ok refs) (Err (WidthDiffers holder))
 
 -- ---- signals of a cell
 
@@ -142,7 +142,7 @@ module _ (frames : List Frame) (here : Here) where
   -- data signals where a width is wanted
   unfoldable pub data_signals : Place → ℕ → List SeenSig → Answer (List Ref)
   data_signals holder width ss =
-      side_by_side (data_signal holder (lone_width width ss)) ss >>= as_wide holder width
+      side_by_side (data_signal holder (lone_width width ss)) ss >>= require_width holder width
 
   -- data signals of any width: those that select the row of a multiplexer
   unfoldable pub select_signals : Place → List SeenSig → Answer (List Ref)
@@ -164,7 +164,7 @@ module _ (frames : List Frame) (here : Here) where
 
   unfoldable pub alias_signals : Place → ℕ → List SeenSig → Answer (List Ref)
   alias_signals holder width ss =
-      side_by_side (λ s. alias_meant s.at s.inverted s.what) ss >>= as_wide holder width
+      side_by_side (λ s. alias_meant s.at s.inverted s.what) ss >>= require_width holder width
 
   -- ---- control signals: only their names are looked up
 

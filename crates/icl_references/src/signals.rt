@@ -6,7 +6,7 @@ ghost use Rattle.icl_lexer.specs.Views.{bytes_of, seen_expr, seen_range, seen_si
 ghost use Rattle.icl_lexer.specs.Values.{ANumber};
 ghost use Rattle.icl_declarations.specs.Faults.{Gives, each};
 ghost use Rattle.icl_references.specs.Roles.{seen_refs};
-ghost use Rattle.icl_references.specs.Signals.{alias_meant, alias_path, alias_signals, as_wide};
+ghost use Rattle.icl_references.specs.Signals.{alias_meant, alias_path, alias_signals, require_width};
 ghost use Rattle.icl_references.specs.Signals.{control_meant, control_signals, data_meant, data_path};
 ghost use Rattle.icl_references.specs.Signals.{data_signal, data_signals, is_scan_out_of, lone_width};
 ghost use Rattle.icl_references.specs.Signals.{register_named, scan_named, scan_path, scan_signal};
@@ -235,8 +235,8 @@ fn lone_width(width: u32, sigs: &[Sig]) -> Option<u32>
 }
 
 /// Bits, if there are as many as are wanted.
-fn as_wide(holder: Place, width: u32, refs: List<Ref>) -> Result<List<Ref>, ElabFault>
-    ensures { Gives seen_refs result (as_wide holder width refs.items) }
+fn require_width(holder: Place, width: u32, refs: List<Ref>) -> Result<List<Ref>, ElabFault>
+    ensures { Gives seen_refs result (require_width holder width refs.items) }
 {
     if refs.len() == width as usize {
         Ok(refs)
@@ -264,7 +264,7 @@ pub fn data_signals(
     let wanted = lone_width(width, sigs);
     let parts = data_parts(alloc, tables, here, holder, wanted, sigs)?;
     let refs = side_by_side(alloc, &parts)?;
-    as_wide(holder, width, refs)
+    require_width(holder, width, refs)
 }
 
 /// The bits of data signals of any width, those that select the row of a multiplexer, position 0 first.
@@ -371,7 +371,7 @@ pub fn alias_signals(
 {
     let parts = alias_parts(alloc, tables, here, sigs)?;
     let refs = side_by_side(alloc, &parts)?;
-    as_wide(holder, width, refs)
+    require_width(holder, width, refs)
 }
 
 // ---- control signals

@@ -7,7 +7,7 @@ ghost use Rattle.icl_declarations.specs.Faults.{Gives};
 ghost use Rattle.icl_declarations.specs.Values.{seen_value};
 ghost use Rattle.icl_references.specs.Signals.{free_number, number_bits, sized_number};
 
-use icl_declarations::{ElabFault, Value, free_in, integer_bits, sized_in};
+use icl_declarations::{ElabFault, Value, fit_sized, fit_unsized, integer_bits};
 use ij_bits::Tern;
 use ij_text::{Place, bit_at};
 use std::alloc::Global;
@@ -35,7 +35,7 @@ fn free_number(
     ensures { Gives tern_bits result (free_number holder at wanted (tern_bits bits)) }
 {
     match wanted {
-        Some(width) => free_in(alloc, bits, width, holder),
+        Some(width) => fit_unsized(alloc, bits, width, holder),
         None => Err(ElabFault::WrongKind { at }),
     }
 }
@@ -50,7 +50,7 @@ fn sized_number(
     ensures { Gives tern_bits result (sized_number holder wanted (tern_bits bits)) }
 {
     match wanted {
-        Some(width) => sized_in(alloc, bits, width, holder),
+        Some(width) => fit_sized(alloc, bits, width, holder),
         None => Ok(bits),
     }
 }

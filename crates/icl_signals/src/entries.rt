@@ -34,7 +34,7 @@ pub(crate) fn next(number: u32) -> Result<u32, OutOfMemory>
 }
 
 /// Parts with those of a kind in a cell after them.
-fn with_cell<'a>(
+fn add_from_cell<'a>(
     kind: Kind,
     number: u32,
     cell: &'a Cell,
@@ -70,7 +70,7 @@ pub(crate) fn entries_of<'a>(
     let mut all = Vec::new(alloc);
     let mut number = 0;
     for cell in hier.cells.as_slice() {
-        all = with_cell(kind, number, cell, all)?;
+        all = add_from_cell(kind, number, cell, all)?;
         number = next(number)?;
     }
     Ok(all)
@@ -86,7 +86,7 @@ pub(crate) fn entries_at<'a>(
     ensures { IfOk result (λ all. map (λ e. numbered (seen_entry e)) all.items
         ≡ parts_that (test_of kind) (seen_cell cell.now)) }
 {
-    let all = with_cell(kind, number, cell, Vec::new(alloc))?;
+    let all = add_from_cell(kind, number, cell, Vec::new(alloc))?;
     Ok(all)
 }
 

@@ -72,7 +72,7 @@ fn find(wiring: &Wiring, ends: &[Option<Note>], start: Wire) -> Option<Found>
 
 /// The ends with those of the bits on the way of a trace, up to one whose end is known. A bit that stands for
 /// no other one has no place in the table, and needs none.
-fn with_way(
+fn add_ends_along(
     wiring: &Wiring,
     ends: Vec<Option<Note>>,
     start: Wire,
@@ -109,20 +109,20 @@ fn with_way(
 }
 
 /// The ends with those of a trace, unless the bit's end is known.
-fn with_trace(wiring: &Wiring, ends: Vec<Option<Note>>, wire: Wire) -> Vec<Option<Note>>
+fn add_trace_ends(wiring: &Wiring, ends: Vec<Option<Note>>, wire: Wire) -> Vec<Option<Note>>
     requires wiring { IsWiring wiring.now }
     requires ends { AreFound (cells_of wiring.now) wiring.now.entry ends.items }
     ensures { AreFound (cells_of wiring.now) wiring.now.entry result.items }
 {
     match find(wiring, ends.as_slice(), wire) {
-        Some(found) => with_way(wiring, ends, wire, found),
+        Some(found) => add_ends_along(wiring, ends, wire, found),
         None => ends,
     }
 }
 
 /// The ends with those of the traces of a part's bits, if it is a wired port: a bit of another part is an
 /// end.
-fn with_part(
+fn add_from_part(
     wiring: &Wiring,
     ends: Vec<Option<Note>>,
     cell: u32,
@@ -137,14 +137,14 @@ fn with_part(
     if is_wired(&what.body) {
         let width = width_of(what)?;
         for pos in 0..width {
-            ends = with_trace(wiring, ends, Wire { cell, part, pos });
+            ends = add_trace_ends(wiring, ends, Wire { cell, part, pos });
         }
     }
     Ok(ends)
 }
 
 /// The ends with those of the traces of a cell's ports.
-fn with_cell(
+fn add_from_cell(
     wiring: &Wiring,
     ends: Vec<Option<Note>>,
     number: u32,
@@ -157,7 +157,7 @@ fn with_cell(
     let mut ends = ends;
     let mut part = 0;
     for what in cell.parts.as_slice() {
-        ends = with_part(wiring, ends, number, part, what)?;
+        ends = add_from_part(wiring, ends, number, part, what)?;
         part = next(part)?;
     }
     Ok(ends)
@@ -171,7 +171,7 @@ fn all_ends(alloc: Global, wiring: &Wiring) -> Result<Vec<Option<Note>>, OutOfMe
     let mut ends = vec![in alloc; None; wiring.places.count as usize]?;
     let mut number = 0;
     for cell in wiring.hier.cells.as_slice() {
-        ends = with_cell(wiring, ends, number, cell)?;
+        ends = add_from_cell(wiring, ends, number, cell)?;
         number = next(number)?;
     }
     Ok(ends)

@@ -119,7 +119,7 @@ pub enum NextBit {
 }
 
 /// What a reference, inverted or not, leads to.
-fn next_of(inverted: bool, r: Ref) -> NextBit
+fn follow_ref(inverted: bool, r: Ref) -> NextBit
     ensures value { (go : Bool → Wire → End) → from_ref go inverted r ≡ resume go result }
     ensures told { IsConstant result }
 {
@@ -145,7 +145,7 @@ pub(crate) fn one_move(wiring: &Wiring, inverted: bool, wire: Wire) -> NextBit
     ensures told { IsTrueNext (cells_of wiring.now) wiring.now.entry result }
 {
     match next_move(wiring, wire) {
-        Driver::Another(r) => next_of(inverted, r),
+        Driver::Another(r) => follow_ref(inverted, r),
         stands => NextBit::Ended(End::AtBit {
             wire,
             inverted,

@@ -42,7 +42,7 @@ fn wired_bits(part: &Part) -> Result<u32, OutOfMemory>
 }
 
 /// More bits, if this many can be counted.
-fn added(count: u32, bits: u32) -> Result<u32, OutOfMemory>
+fn checked_sum(count: u32, bits: u32) -> Result<u32, OutOfMemory>
     ensures { IfOk result (λ sum. sum ≡ count + bits) }
 {
     match count.checked_add(bits) {
@@ -59,7 +59,7 @@ fn bits_before(alloc: Global, count: u32, parts: &[Part]) -> Result<BitsBefore, 
     let mut next = count;
     for part in parts {
         numbers.push(next)?;
-        next = added(next, wired_bits(part)?)?;
+        next = checked_sum(next, wired_bits(part)?)?;
     }
     Ok(BitsBefore {
         numbers,

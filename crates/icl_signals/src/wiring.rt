@@ -42,7 +42,7 @@ pub struct Wiring<'a> {
 }
 
 /// More bits, if this many can be counted.
-fn added(count: u64, bits: u64) -> Result<u64, OutOfMemory>
+fn checked_sum(count: u64, bits: u64) -> Result<u64, OutOfMemory>
     ensures { IfOk result (λ sum. sum ≡ count + bits) }
 {
     match count.checked_add(bits) {
@@ -57,7 +57,7 @@ fn with_parts(count: u64, parts: &[Part]) -> Result<u64, OutOfMemory>
 {
     let mut sum = count;
     for part in parts {
-        sum = added(sum, width(part))?;
+        sum = checked_sum(sum, width(part))?;
     }
     Ok(sum)
 }
@@ -123,7 +123,7 @@ pub(crate) fn wiring_of<'a>(
     ensures entry { IfOk result (λ g. g.entry ≡ entry) }
 {
     let cells = hier.cells.as_slice();
-    let looks = added(count_bits(cells)?, 1)?;
+    let looks = checked_sum(count_bits(cells)?, 1)?;
     let instruments = instrument_flags(alloc, cells)?;
     let numbers = instruments_of(alloc, instruments.as_slice());
     let (instruments, numbers) = beside(instruments, numbers)?;

@@ -114,7 +114,7 @@ impl Reader {
         for line in case.lines().skip(1) {
             match with_row(self.alloc, line, row) {
                 Ok(line) => self.line(line.as_str()),
-                Err(_) => self.wrong("out of memory"),
+                Err(_) => self.note_malformed("out of memory"),
             }
         }
         self.close();
@@ -132,7 +132,7 @@ impl Reader {
     }
 
     /// Tells that a case isn't written as it should be.
-    fn wrong(&mut self, what: &str) {
+    fn note_malformed(&mut self, what: &str) {
         let _ = writeln!(self.trial.told, "  {what}");
     }
 
@@ -162,14 +162,14 @@ impl Reader {
     /// Any other line is a comment.
     fn other(&mut self, line: &str) {
         if !line.starts_with('#') {
-            self.wrong(line);
+            self.note_malformed(line);
         }
     }
 
     /// Adds to the text that is read.
     fn fill(&mut self, text: &str) {
         if !self.texts.fill(text, &mut self.open.text) {
-            self.wrong(text);
+            self.note_malformed(text);
         }
     }
 
@@ -218,7 +218,7 @@ impl Reader {
         for part in line.split_whitespace() {
             let mut bytes = Vec::new(self.alloc);
             if !self.texts.fill(part, &mut bytes) {
-                self.wrong(part);
+                self.note_malformed(part);
             }
             if let Ok(word) = String::from_utf8(bytes) {
                 let _ = words.push(word);

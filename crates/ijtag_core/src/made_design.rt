@@ -7,7 +7,7 @@ ghost use Rattle.ijtag_work.specs.Using.{CanUse, seen_accepted};
 ghost use Rattle.ijtag_work.specs.Words.{seen_make};
 ghost use Rattle.ijtag_core.specs.Files.{texts_of};
 
-use crate::made_files::{files_of, take_each};
+use crate::made_files::{check_lengths, files_of};
 use design_maker::{Made, MakeFault, make};
 use ijtag_stages::{Stage, StageFault, refused_number};
 use ijtag_work::{Accepted, MakeWords, Texts, accept};
@@ -45,7 +45,7 @@ pub(crate) fn accept_design<'t>(
         (accepted_made (written_as (made_names stem.now) (texts_of made.now))) seen_accepted result }
     ensures can { IfOk result (CanUse (record { tables = true; svf = false; pdl = true })) }
 {
-    take_each(alloc, &files_of(stem, made))?;
+    check_lengths(alloc, &files_of(stem, made))?;
     let it = accept(
         alloc,
         &Texts {

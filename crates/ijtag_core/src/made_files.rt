@@ -119,7 +119,7 @@ pub(crate) fn write_each<'a, S: Shelf>(
 
 /// Tests that a text is no longer than a file may be that is loaded.
 #[tactic(auto, unfolding(ijtag_work::specs::Order::taken_one))]
-fn take_one(alloc: Global, file: &MadeFile<'_, '_>) -> Result<(), StageFault>
+fn check_length(alloc: Global, file: &MadeFile<'_, '_>) -> Result<(), StageFault>
     ensures { Follows (taken_one (seen_file file.now)) (λ _. text_of file.now) result }
 {
     if file.text.len() > SOURCE_LIMIT as usize {
@@ -130,14 +130,14 @@ fn take_one(alloc: Global, file: &MadeFile<'_, '_>) -> Result<(), StageFault>
 }
 
 /// Tests that these texts are no longer than files may be that are loaded.
-pub(crate) fn take_each(alloc: Global, files: &[MadeFile<'_, '_>]) -> Result<(), StageFault>
+pub(crate) fn check_lengths(alloc: Global, files: &[MadeFile<'_, '_>]) -> Result<(), StageFault>
     ensures { Follows (taken (map seen_file files.now)) (λ _. map text_of files.now) result }
 {
     match files {
         [] => Ok(()),
         [first, rest @ ..] => {
-            take_one(alloc, first)?;
-            take_each(alloc, rest)?;
+            check_length(alloc, first)?;
+            check_lengths(alloc, rest)?;
             Ok(())
         }
     }

@@ -23,7 +23,7 @@ struct Place {
 
 /// What is at a position of a scan; refused where there is no such scan or position.
 #[tactic(auto, unfolding(crate::specs::Order::answer_at, crate::specs::Order::place_line))]
-fn look(alloc: Global, it: &Accepted, scan: u64, bit: u64) -> Result<Place, StageFault>
+fn locate_bit(alloc: Global, it: &Accepted, scan: u64, bit: u64) -> Result<Place, StageFault>
     requires usable { IsUsable it.now }
     requires models { there it.now.models ≡ true }
     requires commands { there it.now.commands ≡ true }
@@ -72,7 +72,7 @@ impl<'w> Effect for WhereWords<'w> {
         _shelf: &mut S,
         out: &mut O,
     ) -> Result<Verdict, Stop<'a>> {
-        let place = look(alloc, it, self.scan, self.bit)?;
+        let place = locate_bit(alloc, it, self.scan, self.bit)?;
         match out.write(place.line.bytes()) {
             Ok(()) => Ok(place.verdict),
             Err(fault) => Err(Stop::of_output(fault)),

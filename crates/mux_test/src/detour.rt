@@ -76,7 +76,7 @@ impl Detour {
     }
 
     /// Whether the active path is traced from a mux. Takes no memory.
-    fn is_from(&self, mux: u32) -> bool
+    fn is_traced_from(&self, mux: u32) -> bool
         ensures { IsTrue result → self.now.from ≡ Some mux }
     {
         self.from == Some(mux)
@@ -136,7 +136,7 @@ impl Detour {
     }
 
     /// The same, once for all rows of the mux. Takes no memory.
-    fn take_own(&mut self, net: &Net, tree: &Tree, holds: &Holds, known: &KnownRows, mux: u32)
+    fn trace_own_once(&mut self, net: &Net, tree: &Tree, holds: &Holds, known: &KnownRows, mux: u32)
         requires well_formed { IsNet net.now }
         requires known { AreKnown net.now holds.now known.now }
         requires mux { mux < length net.now.muxes.items }
@@ -147,7 +147,7 @@ impl Detour {
         ensures own { IsTracedFrom net.now holds.now self.new.ahead self.new.own.items mux }
         ensures room { HasDetourRoom net.now self.new }
     {
-        if !self.is_from(mux) {
+        if !self.is_traced_from(mux) {
             self.trace_own(net, tree, holds, known, mux);
         }
     }
@@ -210,7 +210,7 @@ impl Detour {
             (IsTracedFrom net.now holds.now self.new.ahead self.new.own.items) }
         ensures room { HasDetourRoom net.now self.new }
     {
-        self.take_own(net, tree, holds, known, row.mux);
+        self.trace_own_once(net, tree, holds, known, row.mux);
         self.trace_other(net, holds, known, row)
     }
 }

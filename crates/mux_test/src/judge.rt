@@ -105,7 +105,7 @@ fn is_open(row: RowVerdict) -> bool
 }
 
 /// Whether each of some muxes is in its row. Takes no memory.
-fn are_in(net: &Net, holds: &Holds, known: &KnownRows, place: &[Branch]) -> bool
+fn are_in_rows(net: &Net, holds: &Holds, known: &KnownRows, place: &[Branch]) -> bool
     requires known { AreKnown net.now holds.now known.now }
     requires place { All (IsBranchOf net.now) place.now }
     ensures { result ≡ all_in net.now place.now holds.now }
@@ -120,7 +120,7 @@ fn are_in(net: &Net, holds: &Holds, known: &KnownRows, place: &[Branch]) -> bool
 
 /// Whether the active path goes through a mux: each mux around it is in the row that it is in. Takes no
 /// memory.
-fn is_met(net: &Net, tree: &Tree, holds: &Holds, known: &KnownRows, mux: u32) -> bool
+fn is_on_path(net: &Net, tree: &Tree, holds: &Holds, known: &KnownRows, mux: u32) -> bool
     requires testable { IsTestable net.now tree.now }
     requires scannable { IsScannable net.now holds.now }
     requires known { AreKnown net.now holds.now known.now }
@@ -129,7 +129,7 @@ fn is_met(net: &Net, tree: &Tree, holds: &Holds, known: &KnownRows, mux: u32) ->
     ensures unmet { IsFalse result → NotIn mux (active_muxes net.now holds.now) }
 {
     let place = tree.place_of_mux(mux);
-    are_in(net, holds, known, place.as_slice())
+    are_in_rows(net, holds, known, place.as_slice())
 }
 
 impl Judge {
@@ -202,7 +202,7 @@ impl Judge {
         if is_passed(net, holds, &self.known, row) {
             return Verdict::Open;
         }
-        if !is_met(net, tree, holds, &self.known, row.mux) {
+        if !is_on_path(net, tree, holds, &self.known, row.mux) {
             return Verdict::Open;
         }
         self.verdict_met(net, tree, holds, row)

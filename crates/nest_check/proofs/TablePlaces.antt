@@ -13,7 +13,7 @@ use Rattle.net_tree.specs.declared.mark.Mark.TheVariants.{Reg as RegMark, Mux as
 use Rattle.net_tree.specs.declared.mark.Mark.TheVariants.{End as EndMark}
 use Rattle.nest_check.specs.Scan.{scan}
 use Rattle.nest_check.specs.Tables.{Table, around_at, is_new, noted, level, entered, next_row, outside}
-use Rattle.nest_check.specs.Tables.{note_register, note_mux, step, pass, nothing_named, table, climbed}
+use Rattle.nest_check.specs.Tables.{note_register, note_mux, step, pass, nothing_named, table, levels_out}
 use Rattle.nest_check.specs.Tables.{climbed_on, levels_from, number_of, levels_in}
 use Rattle.nest_check.specs.declared.place.BegunMux.{BegunMux}
 use Rattle.nest_check.specs.declared.tables.MetMux.{MetMux}
@@ -61,14 +61,15 @@ chain_entered met l outer ls h =
     (a, newest met a, refl, omega (arith, most), chain_kept met a outer ls h)
 
 climb : (n : ℕ) (met : List MetMux) (here : ℕ) (ls : List BegunMux) → here ≤ n
-    → IsChain met here ls → climbed n met here ≡ ls
+    → IsChain met here ls → levels_out n met here ≡ ls
 climb zero met here [] le h = refl
 climb zero met here (l ∷ ls) le h = let below = h.3 in absurd (omega (arith, le, below))
-climb (suc n) met here [] le h = ap (λ k. climbed_on (climbed n met) (around_at met k)) h
+climb (suc n) met here [] le h = ap (λ k. climbed_on (levels_out n met) (around_at met k)) h
 climb (suc n) met here (l ∷ ls) le h =
     let below = h.3 in
     let more = climb n met h.0.outer ls (omega (arith, le, below)) h.4 in
-    ap (climbed_on (climbed n met)) h.1 ∙ ap (λ x. x ∷ climbed n met h.0.outer) h.2 ∙ ap (λ xs. l ∷ xs) more
+    ap (climbed_on (levels_out n met)) h.1 ∙ ap (λ x. x ∷ levels_out n met h.0.outer) h.2
+    ∙ ap (λ xs. l ∷ xs) more
 
 -- ---- numbers of items
 

@@ -87,14 +87,14 @@ abbrev pub climbed_on : (ℕ → List BegunMux) → Option MetMux → List Begun
 climbed_on further None = []
 climbed_on further (Some a) = a.level ∷ further a.outer
 
-abbrev pub climbed : ℕ → List MetMux → ℕ → List BegunMux
-climbed zero met here = []
-climbed (suc n) met here = climbed_on (climbed n met) (around_at met here)
+abbrev pub levels_out : ℕ → List MetMux → ℕ → List BegunMux
+levels_out zero met here = []
+levels_out (suc n) met here = climbed_on (levels_out n met) (around_at met here)
 
 abbrev pub levels_from : List MetMux → Option (Option ℕ) → List BegunMux
 levels_from met None = []
 levels_from met (Some None) = []
-levels_from met (Some (Some here)) = reverse (climbed here met here)
+levels_from met (Some (Some here)) = reverse (levels_out here met here)
 
 abbrev pub number_of : Table → Point → Option (Option ℕ)
 number_of t Entry = None

@@ -104,8 +104,8 @@ impl Tables {
     }
 
     /// From a level outwards.
-    fn climbed(&self, alloc: Global, from: usize) -> Result<Vec<BegunMux>, OutOfMemory>
-        ensures { IfOk result (λ levels. levels.items ≡ tables.climbed from self.now.met.items from) }
+    fn levels_out(&self, alloc: Global, from: usize) -> Result<Vec<BegunMux>, OutOfMemory>
+        ensures { IfOk result (λ levels. levels.items ≡ tables.levels_out from self.now.met.items from) }
     {
         let mut levels = Vec::new(alloc);
         let mut here = from;
@@ -147,7 +147,7 @@ impl Tables {
         match self.number(item) {
             None => Ok(Vec::new(alloc)),
             Some(here) => {
-                let mut levels = self.climbed(alloc, here)?;
+                let mut levels = self.levels_out(alloc, here)?;
                 levels.reverse();
                 Ok(levels)
             }

@@ -35,7 +35,7 @@ impl Model for Spots {
 }
 
 /// Whether two bits are one and the same port's that has no source.
-fn is_unused(a: Spot, b: Spot) -> bool
+fn are_both_absent(a: Spot, b: Spot) -> bool
     ensures { IsTrue result → a ≡ b }
 {
     matches!(
@@ -84,7 +84,7 @@ impl Spots {
         let Some(len) = self.len.checked_add(1) else {
             return Err(OutOfMemory);
         };
-        if !is_unused(self.last, spot) {
+        if !are_both_absent(self.last, spot) {
             let count = self.len - self.first.len() as u32;
             push_same(&mut self.first, self.last, count)?;
             self.last = spot;

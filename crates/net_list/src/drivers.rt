@@ -114,7 +114,7 @@ fn put_run<K: Sink>(net: &Net, first: bool, signal: Sig, k: &mut K) -> Result<()
 }
 
 /// Writes what a position begins with: a run, or nothing where it goes on with one.
-fn put_start<K: Sink>(
+fn put_pos_start<K: Sink>(
     net: &Net,
     goes_on: bool,
     first: bool,
@@ -173,7 +173,7 @@ fn put_run_end<K: Sink>(net: &Net, more: bool, signal: Sig, k: &mut K) -> Result
 }
 
 /// Writes what a position ends with: the end of its run, or nothing where the run goes on.
-fn put_end<K: Sink>(
+fn put_pos_end<K: Sink>(
     net: &Net,
     is_followed: bool,
     more: bool,
@@ -225,8 +225,8 @@ fn put_driver<K: Sink>(net: &Net, bits: &[Sig], pos: usize, k: &mut K) -> Result
     let first = is_leftmost(bits, pos);
     let more = goes_on(bits, pos);
     let followed = is_followed(bits, pos);
-    put_start(net, more, first, signal, k)?;
-    put_end(net, followed, more, signal, k)?;
+    put_pos_start(net, more, first, signal, k)?;
+    put_pos_end(net, followed, more, signal, k)?;
     Ok(())
 }
 

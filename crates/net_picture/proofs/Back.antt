@@ -29,7 +29,7 @@ use Rattle.net_picture.specs.declared.pen.Pen.{Pen}
 use Rattle.net_picture.specs.declared.pen.Fan.{Fan}
 use Rattle.net_picture.specs.Layout.{drawn, pen_after, rows_drawn, register_drawn, mux_drawn, pen_past}
 use Rattle.net_picture.specs.Layout.{row_wire, is_row}
-use Rattle.net_picture.specs.Met.{is_met, met, met_back, met_from, register_at}
+use Rattle.net_picture.specs.Met.{is_met, met, trace_back, met_from, register_at}
 use Rattle.net_picture.specs.Pens.{start_at, ready, after_register, after_row, fan_at}
 use Rattle.net_picture.specs.Plan.{Plan, box_of, has_path, mux_of, plan_of}
 use Rattle.net_picture.proofs.Gathering.{picked_register, picked_mux, picked_row, picked_both}
@@ -316,11 +316,11 @@ way net holds form d registers e =
 met_by : (net : Net) (holds : Holds) (o : Option (List ℕ)) → active net holds ≡ o
     → flat_map register_at (met net holds) ≡ route_of net holds
 met_by net holds (Some out) e =
-    ap (λ (x : Option (List ℕ)). flat_map register_at (cond (is_some x) (met_back net holds) [])) e
+    ap (λ (x : Option (List ℕ)). flat_map register_at (cond (is_some x) (trace_back net holds) [])) e
     ∙ registers_met net holds (length net.regs.items + length net.muxes.items) net.out out e
     ∙ sym (ap (λ (x : Option (List ℕ)). unwrap_or x []) e)
 met_by net holds None e =
-    ap (λ (x : Option (List ℕ)). flat_map register_at (cond (is_some x) (met_back net holds) [])) e
+    ap (λ (x : Option (List ℕ)). flat_map register_at (cond (is_some x) (trace_back net holds) [])) e
     ∙ sym (ap (λ (x : Option (List ℕ)). unwrap_or x []) e)
 
 pub met_is_path : (net : Net) (holds : Holds) → flat_map register_at (met net holds) ≡ route_of net holds

@@ -33,7 +33,7 @@ use Rattle.net_picture.specs.Drawing.{first_pen, shapes_of, drawing_of}
 use Rattle.net_picture.specs.Layout.{drawn, pen_after, fan_after, row_ends, rows_drawn, mux_close, pen_past}
 use Rattle.net_picture.specs.Layout.{wire_to, row_wire, row_shown, row_close, row_closes, is_row}
 use Rattle.net_picture.specs.Marked.{active_boxes_in, funnel_colour, funnel_colours}
-use Rattle.net_picture.specs.Met.{met_back, met_from, register_at, is_mux_met, is_row_met}
+use Rattle.net_picture.specs.Met.{trace_back, met_from, register_at, is_mux_met, is_row_met}
 use Rattle.net_picture.specs.Pens.{start_at, is_full, ready, after_register, after_row, fan_at, funnel_at}
 use Rattle.net_picture.specs.Plan.{Plan, box_of, has_path, mux_of, plan_of}
 use Rattle.net_picture.specs.Rows.{next_of, wire_into, row_colours}
@@ -96,7 +96,7 @@ module _ (net : Net) (form : Items) (holds : Holds) (d : Describes net form) whe
       (last on ∷ []) these [] refl refl ∙ append-nil these
 
   -- where there is a path, it meets what is in colour
-  met_there : (registers : List ℕ) (e : path net holds ≡ Some registers) → met_back net holds
+  met_there : (registers : List ℕ) (e : path net holds ≡ Some registers) → trace_back net holds
       ≡ reverse mine ++ met_from net holds (way net holds form d registers e).moves (Some Entry)
   met_there registers e =
       ap (λ (p : Point). met_from net holds (length net.regs.items + length net.muxes.items) (Some p))
@@ -126,7 +126,7 @@ module _ (net : Net) (form : Items) (holds : Holds) (d : Describes net form) whe
       let plan = plan_of net holds in
       let w = way net holds form d registers e in
       let test : Point → Bool = same_point (MuxAt m) in
-      ap (λ (b : Bool). list_any test (cond b (met_back net holds) [])) (path_there net holds registers e)
+      ap (λ (b : Bool). list_any test (cond b (trace_back net holds) [])) (path_there net holds registers e)
       ∙ ap (list_any test) (met_there registers e)
       ∙ list_any-append test (reverse mine) (met_from net holds w.moves (Some Entry))
       ∙ ap (λ (b : Bool). list_any test (reverse mine) || b) (no_mux_last net holds m w.moves)
@@ -136,7 +136,7 @@ module _ (net : Net) (form : Items) (holds : Holds) (d : Describes net form) whe
   mux_met m None e =
       let plan = plan_of net holds in
       let test : Point → Bool = same_point (MuxAt m) in
-      ap (λ (b : Bool). list_any test (cond b (met_back net holds) [])) (path_gone net holds e)
+      ap (λ (b : Bool). list_any test (cond b (trace_back net holds) [])) (path_gone net holds e)
       ∙ sym (ap (λ (b : Bool). list_any test (points_in (shapes_of b plan form))) (path_gone net holds e)
       ∙ ap (list_any test) (all_points false ∙ off plan first_pen form))
 

@@ -24,12 +24,12 @@ met_from net holds zero p = []
 met_from net holds (suc n) None = []
 met_from net holds (suc n) (Some p) = p ∷ met_from net holds n (before net holds p)
 
-abbrev pub met_back : Net → Holds → List Point
-met_back net holds = met_from net holds (length net.regs.items + length net.muxes.items) (Some net.out)
+abbrev pub trace_back : Net → Holds → List Point
+trace_back net holds = met_from net holds (length net.regs.items + length net.muxes.items) (Some net.out)
 
 -- the same where there is an active path, and else nothing
 abbrev pub met : Net → Holds → List Point
-met net holds = cond (has_path net holds) (met_back net holds) []
+met net holds = cond (has_path net holds) (trace_back net holds) []
 
 abbrev pub is_met : List Point → Point → Bool
 is_met points p = list_any (same_point p) points

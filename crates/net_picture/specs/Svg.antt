@@ -34,9 +34,9 @@ abbrev pub class_text : Bool → List ℕ → List ℕ → List ℕ
 class_text active on off = cond active on off
 
 -- a box is round at its ends where its register selects
-abbrev pub corner : List ℕ → ℕ
-corner [] = 3
-corner (m ∷ ms) = 13
+abbrev pub corner_radius : List ℕ → ℕ
+corner_radius [] = 3
+corner_radius (m ∷ ms) = 13
 
 -- a box with its tooltip and its label
 unfoldable pub box_text : List ℕ → List ℕ → List ℕ → ℕ → ℕ → ℕ → ℕ → List ℕ
@@ -49,7 +49,7 @@ box_text title label class round x y width =
 abbrev pub register_text : Net → ℕ → ℕ → ℕ → ℕ → Bool → List ℕ
 register_text net r x y width active =
     box_text (register_title net r) (short_register net r)
-    (class_text active (codes "b a") (codes "b")) (corner (selected_by net r)) x y width
+    (class_text active (codes "b a") (codes "b")) (corner_radius (selected_by net r)) x y width
 
 -- a funnel with its tooltip and its label
 unfoldable pub funnel_text : List ℕ → List ℕ → List ℕ → ℕ → ℕ → ℕ → List ℕ

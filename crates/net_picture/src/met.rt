@@ -45,7 +45,7 @@ fn source_at(rows: &List<Row>, row: u32) -> Point
 }
 
 /// What a multiplexer passes on: the source of the row that it is in.
-fn passed_on(net: &Net, holds: &Holds, mux: u32) -> Option<Point>
+fn mux_input(net: &Net, holds: &Holds, mux: u32) -> Option<Point>
     requires well_formed { IsNet net.now }
     requires holds { AreHolds net.now holds.now }
     requires there { mux < length net.now.muxes.items }
@@ -69,7 +69,7 @@ fn before(net: &Net, holds: &Holds, point: Point) -> Option<Point>
     match point {
         Point::Entry => None,
         Point::Reg(reg) => Some(net.regs.get(reg as usize).from),
-        Point::Mux(mux) => passed_on(net, holds, mux),
+        Point::Mux(mux) => mux_input(net, holds, mux),
     }
 }
 
@@ -86,17 +86,17 @@ pub(crate) fn met(
     ensures { IfOk result (λ points. points.items ≡ mets.met net.now holds.now) }
 {
     if on {
-        met_back(alloc, net, holds)
+        trace_back(alloc, net, holds)
     } else {
         Ok(Vec::new(alloc))
     }
 }
 
 /// What is met from scan-out back to scan-in, or to a multiplexer that is in none of its rows.
-fn met_back(alloc: Global, net: &Net, holds: &Holds) -> Result<Vec<Point>, OutOfMemory>
+fn trace_back(alloc: Global, net: &Net, holds: &Holds) -> Result<Vec<Point>, OutOfMemory>
     requires well_formed { IsNet net.now }
     requires holds { AreHolds net.now holds.now }
-    ensures { IfOk result (λ points. points.items ≡ mets.met_back net.now holds.now) }
+    ensures { IfOk result (λ points. points.items ≡ mets.trace_back net.now holds.now) }
 {
     let mut points = Vec::new(alloc);
     let mut next = Some(net.out);

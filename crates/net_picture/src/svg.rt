@@ -25,8 +25,8 @@ fn class<'a>(active: bool, on: &'a [u8], off: &'a [u8]) -> &'a [u8]
 }
 
 /// How round the corners of a box are whose register selects in these multiplexers.
-fn corner(muxes: &[u32]) -> u64
-    ensures { result ≡ svg.corner muxes.now }
+fn corner_radius(muxes: &[u32]) -> u64
+    ensures { result ≡ svg.corner_radius muxes.now }
 {
     if muxes.is_empty() { 3 } else { 13 }
 }
@@ -138,7 +138,7 @@ fn put_register<K: Sink>(
         title: title.bytes(),
         label: label.bytes(),
         class: class(active, b"b a", b"b"),
-        round: corner(muxes.as_slice()),
+        round: corner_radius(muxes.as_slice()),
         x,
         y,
         width,

@@ -22,7 +22,7 @@ ghost use Rattle.tap_machine.specs.Play.{pins, scans_in};
 use crate::digits::differs;
 use crate::moments::{add_falling, add_rising};
 use crate::scene::{Scene, shown};
-use crate::shown::{Shown, after_pins, has_shifts, looked_at, moves_stages};
+use crate::shown::{Shown, after_pins, has_shifts, moves_stages, vars_to_check};
 use crate::times::{tick, time_digits};
 use crate::var::{Var, Window};
 use ij_bits::{List, OutOfMemory};
@@ -77,7 +77,7 @@ pub(crate) struct Playing<'a> {
 }
 
 /// An empty list for each variable.
-fn nothing_told(alloc: Global, count: usize) -> Result<Vec<List<u8>>, OutOfMemory>
+fn empty_lists(alloc: Global, count: usize) -> Result<Vec<List<u8>>, OutOfMemory>
     ensures { IfOk result (λ told. left.told_of told.items ≡ untold count) }
 {
     let mut told = Vec::new(alloc);
@@ -149,7 +149,7 @@ impl<'a> Playing<'a> {
         let bench = Bench::new(alloc, net, device, models)?;
         let player = Player::new(Stable::Reset, 0, commands);
         let stages = Holds::zeros(alloc, net)?;
-        let told = nothing_told(alloc, vars.len())?;
+        let told = empty_lists(alloc, vars.len())?;
         let pins = after_pins(vars.as_slice());
         let shifts = has_shifts(vars.as_slice());
         let digits = time_digits(alloc, window.from.saturating_mul(2))?;
@@ -219,7 +219,7 @@ impl<'a> Playing<'a> {
         if self.first {
             return self.vars.len();
         }
-        looked_at(
+        vars_to_check(
             self.vars.as_slice(),
             self.pins,
             self.shifts,

@@ -144,7 +144,7 @@ pub(crate) fn moves_stages(kept: bool, tap: TapState) -> bool
 
 /// How many variables are to be looked at, from the first on: those after them stay from a clock to the next.
 /// `pins` is a place from which on there is no pin, and without `shifts` there are no shift stages.
-pub(crate) fn looked_at(
+pub(crate) fn vars_to_check(
     vars: &[Var],
     pins: usize,
     shifts: bool,

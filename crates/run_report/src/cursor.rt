@@ -17,7 +17,7 @@ ghost use Rattle.run_report.specs.Procedure.{CanRetarget};
 ghost use Rattle.run_report.specs.Reaching.{CanGoOn, IsCursor, StandsOn};
 
 use crate::place::{ReadPlace, find};
-use crate::scans::note_step;
+use crate::scans::note_step_reads;
 use ij_bits::{List, OutOfMemory};
 use merge_order::{BitSteps, next_step};
 use net_graph::{BitStep, Holds, Net, ReadBit};
@@ -138,7 +138,7 @@ impl<'a> Cursor<'a> {
     {
         let scans = self.scans;
         self.places.clear();
-        self.scans = note_step(
+        self.scans = note_step_reads(
             alloc,
             net,
             tree,

@@ -25,7 +25,7 @@ use path_planner::{advance, plan_group};
 use std::alloc::Global;
 
 /// Notes the reads of one plan.
-fn note_plan(
+fn note_plan_reads(
     net: &Net,
     tree: &Tree,
     holds: &Holds,
@@ -50,7 +50,7 @@ fn note_plan(
 }
 
 /// Notes the reads of plans that are scanned one after the other, after this many scans.
-fn note_plans(
+fn note_plans_reads(
     net: &Net,
     tree: &Tree,
     holds: &mut Holds,
@@ -73,14 +73,14 @@ fn note_plans(
     let mut scan = scans;
     for plan in plans {
         scan += 1;
-        note_plan(net, tree, holds, plan, scan, route, places)?;
+        note_plan_reads(net, tree, holds, plan, scan, route, places)?;
         advance(holds, plan);
     }
     Ok(())
 }
 
 /// Notes the reads of a group after this many scans; answers how many scans it has.
-fn note_group(
+fn note_group_reads(
     alloc: Global,
     net: &Net,
     tree: &Tree,
@@ -104,12 +104,12 @@ fn note_group(
     ensures room { HasRoom net.now route.new }
 {
     let plans = plan_group(alloc, net, tree, holds, group, route)?;
-    note_plans(net, tree, holds, plans.as_slice(), scans, route, places)?;
+    note_plans_reads(net, tree, holds, plans.as_slice(), scans, route, places)?;
     Ok(plans.len() as u32)
 }
 
 /// Notes the reads of the rounds of an iApply after this many scans; answers how many scans there are then.
-fn note_rounds(
+fn note_rounds_reads(
     alloc: Global,
     net: &Net,
     tree: &Tree,
@@ -135,14 +135,14 @@ fn note_rounds(
 {
     let mut now = scans;
     for group in rounds {
-        now += note_group(alloc, net, tree, holds, group, now, route, places)?;
+        now += note_group_reads(alloc, net, tree, holds, group, now, route, places)?;
     }
     Ok(now)
 }
 
 /// Notes the reads of a bit step after this many scans; answers how many scans there are then. A reset loads
 /// the instruction in one.
-pub(crate) fn note_step(
+pub(crate) fn note_step_reads(
     alloc: Global,
     net: &Net,
     tree: &Tree,
@@ -166,7 +166,7 @@ pub(crate) fn note_step(
     ensures room { HasRoom net.now route.new }
 {
     match step {
-        BitStep::Apply(rounds) => note_rounds(
+        BitStep::Apply(rounds) => note_rounds_reads(
             alloc,
             net,
             tree,

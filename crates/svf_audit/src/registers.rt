@@ -60,7 +60,7 @@ fn add_bits(reg: u32, width: u32, bits: &mut Vec<BitId>)
 
 /// Keeps of the bits of a path those of the registers with which another path begins as well, and answers how
 /// many registers these are.
-fn keep_front(path: &[u32], old: &[u32], holds: &Holds, bits: &mut Vec<BitId>) -> usize
+fn keep_common_front(path: &[u32], old: &[u32], holds: &Holds, bits: &mut Vec<BitId>) -> usize
     requires route { IsRoute (length holds.now) path.now }
     requires known { bits.old.items ≡ bits_on holds.now old.now }
     ensures within { result ≤ length path.now }
@@ -86,7 +86,7 @@ fn find_bits(path: &[u32], old: &[u32], holds: &Holds, bits: &mut Vec<BitId>)
     ensures items { bits.new.items ≡ bits_on holds.now path.now }
     ensures room { vec_capacity bits.new ≡ vec_capacity bits.old }
 {
-    for i in keep_front(path, old, holds, bits)..path.len() {
+    for i in keep_common_front(path, old, holds, bits)..path.len() {
         add_bits(path[i], holds.register(path[i]).len(), bits);
     }
 }
@@ -276,7 +276,7 @@ impl<'a> Registers<'a> {
     }
 
     /// Puts bits of TDI on the path, one after the other.
-    fn turn_some(&mut self, kept: &LastParts, from: u32, n: u32)
+    fn put_tdi_bits(&mut self, kept: &LastParts, from: u32, n: u32)
         requires kept { AreLastParts kept.now }
         requires turned { IsTurned self.old (seen_tdi kept.now) from }
         requires within { from + n ≤ length self.old.chain.items }
@@ -293,7 +293,7 @@ impl<'a> Registers<'a> {
     }
 
     /// Puts at most 64 bits of TDI on the path. Nothing is done where they are there already.
-    fn turn_word(&mut self, kept: &LastParts, from: u32, n: u32)
+    fn put_tdi_word(&mut self, kept: &LastParts, from: u32, n: u32)
         requires kept { AreLastParts kept.now }
         requires few { n ≤ 64 }
         requires turned { IsTurned self.old (seen_tdi kept.now) from }
@@ -308,11 +308,11 @@ impl<'a> Registers<'a> {
         if self.chain.number(from, n) == tdi_number(kept, from, n) {
             return;
         }
-        self.turn_some(kept, from, n);
+        self.put_tdi_bits(kept, from, n);
     }
 
     /// Puts TDI on the path.
-    fn turn_all(&mut self, kept: &LastParts)
+    fn put_tdi_on_path(&mut self, kept: &LastParts)
         requires kept { AreLastParts kept.now }
         requires turned { IsTurned self.old (seen_tdi kept.now) 0 }
         ensures turned { IsTurned self.new (seen_tdi kept.now) (length self.old.chain.items) }
@@ -324,7 +324,7 @@ impl<'a> Registers<'a> {
         let n = self.chain.len();
         for word in 0..n.div_ceil(64) {
             let from = 64 * word;
-            self.turn_word(kept, from, (n - from).min(64));
+            self.put_tdi_word(kept, from, (n - from).min(64));
         }
     }
 
@@ -346,11 +346,11 @@ impl<'a> Registers<'a> {
         ensures holds { self.new.holds ≡ self.old.holds }
     {
         self.moved.clear();
-        self.turn_all(kept);
+        self.put_tdi_on_path(kept);
     }
 
     /// Whether a bit that selects changes.
-    fn steers(&self) -> bool
+    fn changes_select(&self) -> bool
         requires { AreRegisters self.now }
         ensures { result ≡ list_any (is_select self.now.net.now) self.now.moved.items }
     {
@@ -365,7 +365,7 @@ impl<'a> Registers<'a> {
         requires listed { AreListed self.now }
         ensures { result ≡ list_all (has_row self.now.after) self.now.net.now.muxes.items }
     {
-        if self.listed && !self.steers() {
+        if self.listed && !self.changes_select() {
             return true;
         }
         have_rows(self.net, &self.after)
@@ -382,7 +382,7 @@ impl<'a> Registers<'a> {
         ensures net { self.new.net.now ≡ self.old.net.now }
         ensures holds { self.new.holds ≡ self.old.after }
     {
-        self.found = !self.steers();
+        self.found = !self.changes_select();
         self.listed = true;
         put_bits(self.moved.as_slice(), &self.after, &mut self.holds);
     }

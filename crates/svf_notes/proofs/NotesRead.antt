@@ -111,20 +111,20 @@ decimal_some n h = cases (decimal n) (number_again n h)
 
 -- ---- the values of a row
 
-bit_in : (b : Bool) → is_blank (digit b) ≡ false
-bit_in true = refl
-bit_in false = refl
+found_bit_at : (b : Bool) → is_blank (digit b) ≡ false
+found_bit_at true = refl
+found_bit_at false = refl
 
 expected_in : (e : Option Bool) → is_blank (expected_digit e) ≡ false
 expected_in None = refl
-expected_in (Some b) = bit_in b
+expected_in (Some b) = found_bit_at b
 
 found_in : (e : Option Bool) (b : Bool) → is_blank (if_compared e b) ≡ false
 found_in None b = refl
-found_in (Some e) b = bit_in b
+found_in (Some e) b = found_bit_at b
 
 digit_in : (shown : Shown) (b : Shifted) → is_blank (digit_of shown b) ≡ false
-digit_in Written b = bit_in b.tdi
+digit_in Written b = found_bit_at b.tdi
 digit_in Expected b = expected_in b.expect
 digit_in Found b = found_in b.expect b.found
 

@@ -154,20 +154,20 @@ register_on net r is =
 
 -- ---- rows
 
-bit_on : (b : Bool) → (digit b == 10) ≡ false
-bit_on true = refl
-bit_on false = refl
+path_bit_at : (b : Bool) → (digit b == 10) ≡ false
+path_bit_at true = refl
+path_bit_at false = refl
 
 expected_on : (e : Option Bool) → (expected_digit e == 10) ≡ false
 expected_on None = refl
-expected_on (Some b) = bit_on b
+expected_on (Some b) = path_bit_at b
 
 found_on : (e : Option Bool) (b : Bool) → (if_compared e b == 10) ≡ false
 found_on None b = refl
-found_on (Some e) b = bit_on b
+found_on (Some e) b = path_bit_at b
 
 digit_on : (shown : Shown) (b : Shifted) → (digit_of shown b == 10) ≡ false
-digit_on Written b = bit_on b.tdi
+digit_on Written b = path_bit_at b.tdi
 digit_on Expected b = expected_on b.expect
 digit_on Found b = found_on b.expect b.found
 

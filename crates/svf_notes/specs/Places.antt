@@ -47,11 +47,11 @@ signal_name net (Out inst port pos inverted) = tilde_if inverted ++ output_name 
 -- ---- the place of a bit
 
 -- the register bit at a position of a path
-abbrev pub bit_on : Holds → List ℕ → ℕ → Option BitId
-bit_on holds [] at = None
-bit_on holds (r ∷ rs) at =
+abbrev pub path_bit_at : Holds → List ℕ → ℕ → Option BitId
+path_bit_at holds [] at = None
+path_bit_at holds (r ∷ rs) at =
     let w = length (bits_at holds r) in
-    cond (nat_lt at w) (Some (record { reg = r; pos = at })) (bit_on holds rs (at - w))
+    cond (nat_lt at w) (Some (record { reg = r; pos = at })) (path_bit_at holds rs (at - w))
 
 abbrev pub register_text : Net → Option BitId → List ℕ
 register_text net None = []
@@ -62,7 +62,7 @@ register_text net (Some b) = codes " register "
 abbrev pub on_path : Net → Holds → ℕ → ℕ → List ℕ
 on_path net holds len at =
     cond (len == path_length net holds)
-    (register_text net (bit_on holds (route_of net holds) at)) (codes " no register")
+    (register_text net (path_bit_at holds (route_of net holds) at)) (codes " no register")
 
 -- what a scan of this many bits goes through, and of the network where a bit comes to stand
 abbrev pub target_place : Net → Holds → ℕ → ℕ → Target → List ℕ

@@ -52,7 +52,7 @@ impl BitPart {
 }
 
 /// Whether one of this many bits from a position on is 1.
-fn any_one(bits: &Bits, at: u32, width: u32) -> bool
+fn any_bit_set(bits: &Bits, at: u32, width: u32) -> bool
     requires { at + width ≤ length bits.now.items }
     ensures { result ≡ has_one (take width (drop at bits.now.items)) }
 {
@@ -69,7 +69,7 @@ fn any_one(bits: &Bits, at: u32, width: u32) -> bool
 }
 
 /// Whether two lists differ in one of this many bits from a position on where a third has a 1.
-fn any_other(marks: &Bits, bits: &Bits, others: &Bits, at: u32, width: u32) -> bool
+fn differ_where_set(marks: &Bits, bits: &Bits, others: &Bits, at: u32, width: u32) -> bool
     requires marks { at + width ≤ length marks.now.items }
     requires bits { at + width ≤ length bits.now.items }
     requires others { at + width ≤ length others.now.items }
@@ -219,7 +219,7 @@ impl ScanBits {
         requires { at + width ≤ length self.now.items }
         ensures { result ≡ list_any notes.is_compared (take width (drop at self.now.items)) }
     {
-        any_one(&self.compared, at, width)
+        any_bit_set(&self.compared, at, width)
     }
 
     /// Whether at some of the bits from a position on another is found than is expected.
@@ -227,7 +227,7 @@ impl ScanBits {
         requires { at + width ≤ length self.now.items }
         ensures { result ≡ list_any notes.differs (take width (drop at self.now.items)) }
     {
-        any_other(&self.compared, &self.expected, &self.found, at, width)
+        differ_where_set(&self.compared, &self.expected, &self.found, at, width)
     }
 
     /// Whether the bits at TDI from a position on are those that a register holds.

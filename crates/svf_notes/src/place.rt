@@ -51,9 +51,9 @@ pub struct FoundBit {
 }
 
 /// The register bit at a position of a path, if it is that long.
-fn bit_on(holds: &Holds, path: &[u32], at: u64) -> Option<BitId>
+fn path_bit_at(holds: &Holds, path: &[u32], at: u64) -> Option<BitId>
     requires { IsRoute (length holds.now) path.now }
-    ensures bit { result ≡ places.bit_on holds.now path.now at }
+    ensures bit { result ≡ places.path_bit_at holds.now path.now at }
     ensures there { IfSome result (λ bit. bit.reg < length holds.now) }
     ensures within { IfSome result (λ bit. IsHeld holds.now bit) }
 {
@@ -111,7 +111,7 @@ fn put_on_path(
     if len != path_len(net, bench) {
         return line.write(b" no register");
     }
-    match bit_on(bench.holds(), bench.path().as_slice(), at) {
+    match path_bit_at(bench.holds(), bench.path().as_slice(), at) {
         None => line.write(b""),
         Some(bit) => put_register_bit(net, bit, line),
     }
@@ -216,7 +216,12 @@ fn line_of(
 }
 
 /// What is known of a position of the scan that was shifted last, by its number.
-fn bit_in(alloc: Global, playing: &Playing, number: u32, at: u64) -> Result<FoundBit, OutOfMemory>
+fn found_bit_at(
+    alloc: Global,
+    playing: &Playing,
+    number: u32,
+    at: u64,
+) -> Result<FoundBit, OutOfMemory>
     requires { IsPlaying playing.now }
     ensures answer { IfOk result (λ found. found.answer ≡ places.scan_answer at
         (Some (record { number = number; bits = playing.now.bits.items; state = playing.now.bench.state }))) }
@@ -251,7 +256,7 @@ fn find_in(
 {
     while let Some(number) = playing.next()? {
         if u64::from(number) == scan {
-            return bit_in(alloc, playing, number, at);
+            return found_bit_at(alloc, playing, number, at);
         }
     }
     Ok(FoundBit {

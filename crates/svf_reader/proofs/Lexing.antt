@@ -265,9 +265,9 @@ no_runs = refl
 
 -- ---- after the first word
 
-pub after_gap : (text : List ℕ)
+pub skip_gap : (text : List ℕ)
     → after_word (plain text) ≡ after_word (plain (drop (run_length Gap false text) text))
-after_gap text =
+skip_gap text =
     gap_skipped (List ℕ) after_word
     (λ b bs e. ap (λ k. cond k (after_word bs) (cond (is_mark b) bs (after_bytes bs))) e) false text
 

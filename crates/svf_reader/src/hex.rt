@@ -131,7 +131,7 @@ fn digits_bits(alloc: Global, len: u32, digits: &[u8]) -> Result<Bits, SvfCause>
 }
 
 /// The digits of a hexadecimal text up to its `)`, in room for those of this many bits.
-fn gathered(alloc: Global, len: u32, text: &[u8]) -> Result<Vec<u8>, OutOfMemory>
+fn gather_digits(alloc: Global, len: u32, text: &[u8]) -> Result<Vec<u8>, OutOfMemory>
     ensures { IfOk result (λ digits. digits.items ≡ digits_of text.now) }
 {
     let mut digits = Vec::with_capacity(alloc, len.div_ceil(4) as usize)?;
@@ -188,6 +188,6 @@ pub(crate) fn text_part(alloc: Global, len: u32, text: &[u8]) -> Result<ScanPart
     if all_hex(text) {
         return digits_part(alloc, len, text);
     }
-    let digits = gathered(alloc, len, text)?;
+    let digits = gather_digits(alloc, len, text)?;
     digits_part(alloc, len, &digits)
 }

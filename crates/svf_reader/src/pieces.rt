@@ -15,7 +15,7 @@ pub struct Piece<'a> {
 }
 
 /// The text after the blanks and comments at its front.
-fn after_gap(text: &[u8]) -> &[u8]
+fn skip_gap(text: &[u8]) -> &[u8]
     ensures words { words_of text.now ≡ words_of result.now }
     ensures runs { runs_of text.now ≡ runs_of result.now }
     ensures after { after_word (plain text.now) ≡ after_word (plain result.now) }
@@ -48,7 +48,7 @@ pub(crate) fn next_word<'a>(text: &'a [u8]) -> Option<Piece<'a>>
     ensures shorter { IfSome result (λ p. length p.rest.now < length text.now) }
     ensures within { IfSome result (λ p. length p.piece.now + length p.rest.now ≤ length text.now) }
 {
-    let text = after_gap(text);
+    let text = skip_gap(text);
     if text.is_empty() {
         return None;
     }
@@ -62,7 +62,7 @@ pub(crate) fn next_run<'a>(text: &'a [u8]) -> Option<Piece<'a>>
         (λ p. runs_of text.now ≡ p.piece.now ∷ runs_of p.rest.now) }
     ensures shorter { IfSome result (λ p. length p.rest.now < length text.now) }
 {
-    let text = after_gap(text);
+    let text = skip_gap(text);
     if text.is_empty() {
         return None;
     }

@@ -14,7 +14,7 @@ fn no_width(width: u128) -> bool
 }
 
 /// Whether a model has all rows that it may have.
-fn no_row(m: &Model) -> bool
+fn has_all_rows(m: &Model) -> bool
     requires change { length m.now.change.items ≤ 64 }
     requires run { length m.now.run.items ≤ 64 }
     ensures { result
@@ -36,8 +36,8 @@ pub(crate) fn limit_fault(m: &Model, l: &SaidLine) -> bool
             no_width(*width) || *depth == 0 || 256 < *depth || m.mem.is_some()
         }
         SaidLine::Output { .. } => 16 <= m.outs.len(),
-        SaidLine::Change(_) => no_row(m),
-        SaidLine::Run(_) => no_row(m),
+        SaidLine::Change(_) => has_all_rows(m),
+        SaidLine::Run(_) => has_all_rows(m),
         SaidLine::End => false,
     }
 }

@@ -63,7 +63,7 @@ pub(crate) struct Progress<'a> {
 }
 
 /// The bits of the next scan: TDI and MASK hold where the command has none, MASK up to a new length.
-pub(crate) fn held_for<'a>(kept: HeldBits<'a>, scan: &'a Scan) -> HeldBits<'a>
+pub(crate) fn next_held_bits<'a>(kept: HeldBits<'a>, scan: &'a Scan) -> HeldBits<'a>
     requires kept { AreHeldBits kept }
     requires fits { FitsAfter (last_length kept) (seen_scan scan.now) }
     ensures kept { seen_held result ≡ after_scan (seen_held kept.entry) (seen_scan scan.now) }
@@ -262,7 +262,7 @@ impl<'a> Progress<'a> {
         ensures sound { IsUnderWay self.new }
         ensures fewer { to_begin self.new < to_begin self.old }
     {
-        self.ir = held_for(self.ir, scan);
+        self.ir = next_held_bits(self.ir, scan);
         self.begin_scan(Phase::BeforeIr, self.ir, &scan.tdo);
     }
 
@@ -278,7 +278,7 @@ impl<'a> Progress<'a> {
         ensures sound { IsUnderWay self.new }
         ensures fewer { to_begin self.new < to_begin self.old }
     {
-        self.dr = held_for(self.dr, scan);
+        self.dr = next_held_bits(self.dr, scan);
         self.begin_scan(Phase::BeforeDr, self.dr, &scan.tdo);
     }
 

@@ -25,7 +25,7 @@ fn add_segment(list: &mut Vec<usize>, segment: usize) -> Result<(), PlanStop> {
 }
 
 /// The segments in order, each once.
-fn each_once(alloc: Global, list: Vec<usize>) -> Result<Vec<usize>, PlanStop> {
+fn sort_and_dedup(alloc: Global, list: Vec<usize>) -> Result<Vec<usize>, PlanStop> {
     let mut sorted = list;
     sorted.sort()?;
     let mut once = Vec::new(alloc);
@@ -59,8 +59,8 @@ pub(crate) fn needs_of(
         add_segment(&mut ends, copy_at(of_reg, read.bit.reg as usize)?)?;
     }
     Ok(Needs {
-        ends: each_once(alloc, ends)?,
-        kept: each_once(alloc, kept)?,
+        ends: sort_and_dedup(alloc, ends)?,
+        kept: sort_and_dedup(alloc, kept)?,
     })
 }
 

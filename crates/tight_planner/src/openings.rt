@@ -106,7 +106,11 @@ fn cheapest(costs: &[u64]) -> Result<usize, PlanStop> {
 }
 
 /// The scan of each level, the first level first, where this is the scan of the last one.
-fn traced(alloc: Global, levels: &[OpeningLevel], last: usize) -> Result<Vec<usize>, PlanStop> {
+fn trace_scans(
+    alloc: Global,
+    levels: &[OpeningLevel],
+    last: usize,
+) -> Result<Vec<usize>, PlanStop> {
     let mut scans = Vec::new(alloc);
     let mut scan = last;
     for i in (0..levels.len()).rev() {
@@ -174,7 +178,7 @@ impl Stretch {
         }
         for (scan, count) in scans.iter().zip(opening.levels.iter()) {
             if let Some(inner) = count.checked_sub(1) {
-                self.want_around(all, *scan, copy_at(&opening.chain, inner)?)?;
+                self.want_segment(all, *scan, copy_at(&opening.chain, inner)?)?;
             }
         }
         Ok(())
@@ -198,7 +202,7 @@ impl Stretch {
         }
         let best = at(&levels, more.checked_sub(1).ok_or(PlanStop::NoPlan)?)?;
         let ends = self.with_new_scans(all, &best.best)?;
-        traced(self.alloc, &levels, cheapest(&ends)?)
+        trace_scans(self.alloc, &levels, cheapest(&ends)?)
     }
 
     /// Costs with those of the scans that aren't there yet.
@@ -219,7 +223,7 @@ impl Stretch {
     /// has the path at reset.
     fn add_costs(&self, all: &Segments, segment: usize, costs: &mut [u64]) -> Result<(), PlanStop> {
         let it = copy_at(&all.segments, segment)?;
-        let extra = all.extra(segment)?;
+        let extra_bits = all.extra_bits(segment)?;
         let is_reset = at(&all.muxes, it.mux)?.reset_row == it.row;
         let list = at(&self.wants, it.mux)?;
         let mut next: usize = 0;
@@ -235,7 +239,7 @@ impl Stretch {
             };
             let more = match (fits, wanted) {
                 (false, _) => FAR,
-                (true, None) if t > 0 => extra,
+                (true, None) if t > 0 => extra_bits,
                 _ => 0,
             };
             let cost = copy_at(costs, t)?;

@@ -11,7 +11,7 @@ use net_graph::{Net, ReadBit};
 use svf_writer::{put_list, put_mark, put_round};
 
 /// Writes the comment before a round.
-fn put_front(round: &Round, text: &mut SureSink) -> Result<(), PlanStop> {
+fn put_comment(round: &Round, text: &mut SureSink) -> Result<(), PlanStop> {
     if round.round < 2 {
         put_mark(round.apply, text)?;
     } else {
@@ -56,7 +56,7 @@ fn put_compared(chip: &Chip, reads: &[ReadBit], text: &mut SureSink) -> Result<(
 /// Writes the scan that is being made. It does this round, if any.
 fn put_scan(chip: &mut Chip, round: Option<&Round>, text: &mut SureSink) -> Result<(), PlanStop> {
     if let Some(done) = round {
-        put_front(done, text)?;
+        put_comment(done, text)?;
         for write in done.group.writes.as_slice() {
             chip.write(write.bit, write.value)?;
         }
@@ -81,15 +81,15 @@ impl Stretch {
         for item in &self.items {
             match item {
                 Item::Run(cycles) => put_cycles(*cycles, text)?,
-                Item::Mark(round) => put_front(at(&self.rounds, *round)?, text)?,
-                Item::Scan(scan) => self.put_one(net, all, *scan, chip, text)?,
+                Item::Mark(round) => put_comment(at(&self.rounds, *round)?, text)?,
+                Item::Scan(scan) => self.put_scan_text(net, all, *scan, chip, text)?,
             }
         }
         Ok(())
     }
 
     /// Writes the text of one scan.
-    fn put_one(
+    fn put_scan_text(
         &self,
         net: &Net,
         all: &Segments,

@@ -228,7 +228,7 @@ impl Segments {
     }
 
     /// What a row costs above the one of its mux that has the fewest bits, in bits of a scan.
-    pub fn extra(&self, segment: usize) -> Result<u64, PlanStop> {
+    pub fn extra_bits(&self, segment: usize) -> Result<u64, PlanStop> {
         let row = at(&self.segments, segment)?;
         let info = at(&self.muxes, row.mux)?;
         let rest = row_segment(&self.muxes, row.mux, info.rest_row)?;

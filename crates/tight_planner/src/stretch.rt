@@ -157,11 +157,11 @@ impl Stretch {
             self.items.push(Item::Mark(number))?;
             return Ok(());
         }
-        self.make_way(all, &needs.ends)?;
+        self.add_scan_if_clash(all, &needs.ends)?;
         self.prepare_all(all, &needs.ends)?;
         let scan = self.add_scan(all, Some(number))?;
         for end in &needs.ends {
-            self.want_around(all, scan, *end)?;
+            self.want_segment(all, scan, *end)?;
         }
         self.kept = needs.kept;
         Ok(())
@@ -177,7 +177,7 @@ impl Stretch {
         self.items.push(Item::Scan(number))?;
         let kept = mem::replace(&mut self.kept, Vec::new(self.alloc));
         for s in &kept {
-            self.want_around(all, number, *s)?;
+            self.want_segment(all, number, *s)?;
         }
         Ok(number)
     }
@@ -191,7 +191,7 @@ impl Stretch {
     }
 
     /// Wants a segment on the path of a scan, and hence those around it.
-    pub fn want_around(
+    pub fn want_segment(
         &mut self,
         all: &Segments,
         scan: usize,
@@ -213,14 +213,14 @@ impl Stretch {
     }
 
     /// Adds a scan where these segments need another row than what stays open.
-    fn make_way(&mut self, all: &Segments, ends: &[usize]) -> Result<(), PlanStop> {
+    fn add_scan_if_clash(&mut self, all: &Segments, ends: &[usize]) -> Result<(), PlanStop> {
         if self.kept.is_empty() {
             return Ok(());
         }
         let asked = asked_rows(self.alloc, all, ends)?;
         let mut clash = false;
         for s in &self.kept {
-            clash = clash || clashes(all, &asked, *s)?;
+            clash = clash || needs_other_row(all, &asked, *s)?;
         }
         if clash {
             self.add_scan(all, None)?;
@@ -251,7 +251,11 @@ fn asked_rows(
 }
 
 /// Whether a segment needs another row of some mux.
-fn clashes(all: &Segments, asked: &[Option<usize>], segment: usize) -> Result<bool, PlanStop> {
+fn needs_other_row(
+    all: &Segments,
+    asked: &[Option<usize>],
+    segment: usize,
+) -> Result<bool, PlanStop> {
     let mut s = segment;
     for _ in 0..17 {
         if s == OUTER {

@@ -75,7 +75,7 @@ impl<'a> Planner<'a> {
     }
 
     /// Writes the text of the work since the last reset.
-    fn put_stretch(&mut self) -> Result<(), PlanStop> {
+    fn put_work_since_reset(&mut self) -> Result<(), PlanStop> {
         if self.stretch.items.is_empty() {
             return Ok(());
         }
@@ -89,7 +89,7 @@ impl<'a> Planner<'a> {
     fn add_reset(&mut self, device: &Device) -> Result<(), PlanStop>
         requires { IsDevice device.now }
     {
-        self.put_stretch()?;
+        self.put_work_since_reset()?;
         put_reset(device, &mut self.text)?;
         reset(self.net, &mut self.meant)?;
         self.chip.reset(self.net, &self.all)
@@ -122,7 +122,7 @@ fn planned<'b>(
     put_preface(device, &mut planner.text)?;
     for _ in 0..MOST_STEPS {
         let Some(step) = next_step(steps)? else {
-            planner.put_stretch()?;
+            planner.put_work_since_reset()?;
             return Ok(planner.text);
         };
         planner.add_step(device, step)?;

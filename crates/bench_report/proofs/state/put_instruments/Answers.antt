@@ -6,8 +6,8 @@ use Rattle.bench_report.specs.Report.{inst_text, instruments_from, instruments_t
 use Rattle.bench_report.proofs.States.{insts_next}
 use Rattle.bench_report.proofs.state.put_instruments.Goals as goal
 
-pub returns-in_err-put_one-clause-part : goal.returns-in_err-put_one-clause-part
-returns-in_err-put_one-clause-part g c =
+pub returns-in_err-put_instrument_line-clause-part : goal.returns-in_err-put_instrument_line-clause-part
+returns-in_err-put_instrument_line-clause-part g c =
     let net = c.args.net.now in
     let insts = c.args.bench.now.state.insts in
     let ms = c.args.models.now.items in
@@ -21,7 +21,7 @@ returns-in_err-put_one-clause-part g c =
     (instruments_from net insts (i + 1) (drop (i + 1) (map seen_model ms)))
     (subst (λ (rest : List ℕ). AddsFront (g.K.Sink.taken c.args.k.now) (g.K.Sink.taken c.loop-i.k) rest
     (instruments_text net (map seen_model ms) insts)) here c.loop-i.invariant.front)
-    c.in_err-put_one.ensures.part)
+    c.in_err-put_instrument_line.ensures.part)
 
 pub loop-i-preserved : goal.loop-i-preserved
 loop-i-preserved g c =
@@ -38,6 +38,6 @@ loop-i-preserved g c =
           (instruments_from net insts (i + 1) (drop (i + 1) (map seen_model ms)))
           (subst (λ (rest : List ℕ). AddsFront (g.K.Sink.taken c.args.k.now) (g.K.Sink.taken c.loop-i.k) rest
           (instruments_text net (map seen_model ms) insts)) here c.loop-i.invariant.front)
-          c.in_ok-put_one.ensures.whole;
-      later = omega (arith, c.put_one.ensures.cause.later);
+          c.in_ok-put_instrument_line.ensures.whole;
+      later = omega (arith, c.put_instrument_line.ensures.cause.later);
     }

@@ -8,7 +8,7 @@ use Rattle.icl_elab.proofs.hierarchy.bound_in_parent.Goals as goal
 pub returns-in-Some-home : goal.returns-in-Some-home
 returns-in-Some-home c = λ n h.
     let cells = c.args.cells.now in
-    c.bound_by.ensures
+    c.part_bindings.ensures
     ∙ bound_there cells n c.in-Some.parent c.in-Some-home.part
     (sym c.in-Some-home.is ∙ h ∙ ap (home_in cells n) c.in-Some.is)
     ∙ sym (ap (bindings_of (seen_pass cells) n) c.in-Some.is)

@@ -5,7 +5,7 @@ use Rattle.icl_declarations.specs.Faults.{seen_fault, over, Answer, Fails}
 use Rattle.icl_declarations.proofs.Each.{over_goes, over_stops}
 use Rattle.icl_frames.specs.declared.frames.Request.{Request as RequestAt}
 use Rattle.icl_frames.specs.FirstPass.{Progress, Request, enter}
-use Rattle.icl_frames.specs.SeenFrames.{names_of, seen_request, seen_progress, seen_stepped, with_cell}
+use Rattle.icl_frames.specs.SeenFrames.{names_of, seen_request, seen_progress, seen_stepped, add_cell}
 use Rattle.icl_frames.proofs.Levels.{no_level, a_level, below_fails, below_goes}
 use Rattle.icl_frames.proofs.cells.+enter.Goals as goal
 
@@ -25,7 +25,7 @@ returns-in_err-stepped-clause-gives t c =
     let levels : 0 < c.args.levels = omega (arith, c.if-levels-eq0.false) in
     let whole = a_level c.args.levels blocks (names_of c.args.above.now) inside c.args.parent s r levels
     (ap names_of c.as_slice.ensures.value ∙ c.in_ok-inside.ensures.ok) in
-    rw (p.1, p.2) (below_fails (c.args.levels - 1) blocks inside (length s.frames) (with_cell blocks inside
+    rw (p.1, p.2) (below_fails (c.args.levels - 1) blocks inside (length s.frames) (add_cell blocks inside
     c.args.parent s r) (seen_fault c.in_err-stepped.field-0.0) _ whole c.in_err-stepped.ensures.gives)
 
 pub loop-wanted-init : goal.loop-wanted-init
@@ -38,7 +38,7 @@ loop-wanted-init t c =
     let levels : 0 < c.args.levels = omega (arith, c.if-levels-eq0.false) in
     let whole = a_level c.args.levels blocks
     (names_of c.args.above.now) inside c.args.parent s r levels c.in_ok-inside.ensures.ok in
-    let gives = ap (λ l. with_cell blocks (names_of l) c.args.parent s r) (sym c.as_slice.ensures.value)
+    let gives = ap (λ l. add_cell blocks (names_of l) c.args.parent s r) (sym c.as_slice.ensures.value)
     ∙ c.in_ok-stepped.ensures.gives in
     record {
       few = c.in_ok-stepped.ensures.few;
@@ -47,7 +47,7 @@ loop-wanted-init t c =
           ∙ ap (λ (n : ℕ). over (enter (c.args.levels - 1) blocks inside (Some n)) (seen_progress
           stepped.progress) (map seen_request stepped.requests.items)) c.in_ok-stepped.ensures.number
           ∙ below_goes (c.args.levels - 1) blocks inside (length s.frames)
-          (with_cell blocks inside c.args.parent s r) (seen_stepped stepped) _ whole gives;
+          (add_cell blocks inside c.args.parent s r) (seen_stepped stepped) _ whole gives;
     }
 
 pub returns-in_err-cells-clause-gives : goal.returns-in_err-cells-clause-gives

@@ -64,12 +64,12 @@ module _ (stem : List ℕ) (made : Made) (files : List MadeFile) (are : map seen
   later_fault (Refused r) is = inr (texts_of made, read_so, is)
   later_fault OutOfMemory is = tt
 
-pub returns-in_err-take_each-clause-follows : goal.returns-in_err-take_each-clause-follows
-returns-in_err-take_each-clause-follows c =
+pub returns-in_err-check_lengths-clause-follows : goal.returns-in_err-check_lengths-clause-follows
+returns-in_err-check_lengths-clause-follows c =
     let ws : List Written = written_as (made_names c.args.stem.now) (texts_of c.args.made.now) in
-    let fault : StageFault = c.in_err-take_each.field-0.0 in
+    let fault : StageFault = c.in_err-check_lengths.field-0.0 in
     let is : IsFault (taken ws) fault = subst
-    (λ (vs : List Written). IsFault (taken vs) fault) c.files_of.ensures c.in_err-take_each.ensures in
+    (λ (vs : List Written). IsFault (taken vs) fault) c.files_of.ensures c.in_err-check_lengths.ensures in
     follows_fault (accepted_made ws) seen_accepted c.from_residual.result fault
     c.from_residual.ensures.1 (taking_fault ws fault is)
 
@@ -84,7 +84,7 @@ accept-requires c =
     named_so _ _ _ _ _ _ _ _ c.as_slice.ensures c.as_slice-2.ensures
     c.as_slice-3.ensures c.as_slice-4.ensures in
     let short : AreShort (texts_of made) =
-    fit_so c.args.stem.now made c.files_of.result c.files_of.ensures c.in_ok-take_each.ensures in
+    fit_so c.args.stem.now made c.files_of.result c.files_of.ensures c.in_ok-check_lengths.ensures in
     subst AreShortTexts (sym same)
     (record { icl = short.0; device = short.1.1.0; tables = short.1.1.1.0; svf = tt; pdl = short.1.0 })
 
@@ -101,7 +101,7 @@ returns-in_err-it-clause-follows c =
     subst (λ (t : Texts). IsFault (accepted t) fault) same c.in_err-it.ensures.follows in
     follows_fault (accepted_made ws) seen_accepted c.from_residual-in_err-it.result fault
     c.from_residual-in_err-it.ensures.1 (later_fault c.args.stem.now made c.files_of.result
-    c.files_of.ensures c.in_ok-take_each.ensures fault is)
+    c.files_of.ensures c.in_ok-check_lengths.ensures fault is)
 
 pub returns-clause-follows : goal.returns-clause-follows
 returns-clause-follows c =
@@ -113,4 +113,4 @@ returns-clause-follows c =
     c.as_slice-3.ensures c.as_slice-4.ensures in
     let is : (accepted (texts_named made)).gives it =
     subst (λ (t : Texts). (accepted t).gives it) same c.in_ok-it.ensures.follows in
-    accepted_so c.args.stem.now made c.files_of.result c.files_of.ensures c.in_ok-take_each.ensures it is
+    accepted_so c.args.stem.now made c.files_of.result c.files_of.ensures c.in_ok-check_lengths.ensures it is

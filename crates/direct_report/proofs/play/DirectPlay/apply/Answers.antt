@@ -23,7 +23,7 @@ returns-in_err-told-clause-part g c d k =
     i.differs v.same_net v.same_models d kept gs
     ∙ ap (λ (x : Tally). step_lines x.net (map machine_of x.models) d (Apply gs)) c.self.view_is in
     at_refusal _ (subst (λ (t : List ℕ). AddsPart (g.K.Sink.taken c.args.k.now)
-    (g.K.Sink.taken c.tell_rounds.new.k) t) text (c.in_err-told.ensures.part d stands))
+    (g.K.Sink.taken c.play_rounds.new.k) t) text (c.in_err-told.ensures.part d stands))
 
 pub returns-clause-whole : goal.returns-clause-whole
 returns-clause-whole g c d k =
@@ -36,7 +36,7 @@ returns-clause-whole g c d k =
     let text = lines_same i.net.now i.models.now.items i.values i.values i.reads
     i.differs v.same_net v.same_models d kept gs
     ∙ ap (λ (x : Tally). step_lines x.net (map machine_of x.models) d (Apply gs)) c.self.view_is in
-    subst (λ (t : List ℕ). Adds (g.K.Sink.taken c.args.k.now) (g.K.Sink.taken c.tell_rounds.new.k) t) text
+    subst (λ (t : List ℕ). Adds (g.K.Sink.taken c.args.k.now) (g.K.Sink.taken c.play_rounds.new.k) t) text
     (c.in_ok-told.ensures.whole d stands)
 
 pub returns-clause-state : goal.returns-clause-state
@@ -48,7 +48,7 @@ returns-clause-state g c d k =
     let stands = stands_now i.net.now i.models.now.items i.values i.values i.reads
     i.differs v.same_net v.same_models d kept in
     let told = c.in_ok-told.told in
-    let after = c.tell_rounds.new.values in
+    let after = c.play_rounds.new.values in
     let done = after_rounds i.net.now i.models.now.items i.values after i.reads i.differs v.same_net
     v.same_models d kept gs told.reads told.differs (c.in_ok-told.ensures.state d stands)
     (c.in_ok-told.ensures.counts d stands) in

@@ -14,12 +14,12 @@ returns-then-is_passed-clause-verdict c =
     says_nothing h (route_of net h) (stuck_route net c.args.row h)
     (stuck_in_row net c.args.row h (c.if-is_passed.ensures refl))
 
-pub returns-then-not-is_met-clause-verdict : goal.returns-then-not-is_met-clause-verdict
-returns-then-not-is_met-clause-verdict c =
+pub returns-then-not-is_on_path-clause-verdict : goal.returns-then-not-is_on_path-clause-verdict
+returns-then-not-is_on_path-clause-verdict c =
     let net = c.args.net.now in
     let h = c.args.holds.now in
     says_nothing h (route_of net h) (stuck_route net c.args.row h)
-    (stuck_unmet net c.args.row h (c.if-not-is_met.ensures.unmet refl))
+    (stuck_unmet net c.args.row h (c.if-not-is_on_path.ensures.unmet refl))
 
 pub verdict_met-requires-clause-path : goal.verdict_met-requires-clause-path
 verdict_met-requires-clause-path c =

@@ -47,7 +47,7 @@ returns-clause-still c =
       same = sym c.put_bits.ensures;
       ready = λ t.
           let g = ready_then r c.put_bits.new.into c.requires.sound c.requires.found c.requires.shifted
-          (sym c.steers.ensures ∙ not-true c.steers.result t) c.put_bits.ensures in
+          (sym c.changes_select.ensures ∙ not-true c.changes_select.result t) c.put_bits.ensures in
           record { found = record { path = g.0; bits = g.1 }; chain = g.2 };
       listed = λ t. ap (λ h. list_all (has_row h) r.net.now.muxes.items) c.put_bits.ensures ∙ c.requires.rows;
     }

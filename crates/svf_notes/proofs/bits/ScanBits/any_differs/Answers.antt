@@ -2,8 +2,8 @@ use Rattle.std.proofs.Common.{◌∙◌, arith}
 use Rattle.svf_notes.proofs.Packed.{differs_is, count_is}
 use Rattle.svf_notes.proofs.bits.ScanBits.any_differs.Goals as goal
 
-pub any_other-requires-clause-marks : goal.any_other-requires-clause-marks
-any_other-requires-clause-marks c =
+pub differ_where_set-requires-clause-marks : goal.differ_where_set-requires-clause-marks
+differ_where_set-requires-clause-marks c =
     let i = c.self.inside in
     omega (
       arith,
@@ -13,8 +13,8 @@ any_other-requires-clause-marks c =
       c.self.invariant.compared,
     )
 
-pub any_other-requires-clause-bits : goal.any_other-requires-clause-bits
-any_other-requires-clause-bits c =
+pub differ_where_set-requires-clause-bits : goal.differ_where_set-requires-clause-bits
+differ_where_set-requires-clause-bits c =
     let i = c.self.inside in
     omega (
       arith,
@@ -24,8 +24,8 @@ any_other-requires-clause-bits c =
       c.self.invariant.expected,
     )
 
-pub any_other-requires-clause-others : goal.any_other-requires-clause-others
-any_other-requires-clause-others c =
+pub differ_where_set-requires-clause-others : goal.differ_where_set-requires-clause-others
+differ_where_set-requires-clause-others c =
     let i = c.self.inside in
     omega (
       arith,
@@ -38,7 +38,7 @@ any_other-requires-clause-others c =
 pub returns : goal.returns
 returns c =
     let i = c.self.inside in
-    c.any_other.ensures ∙ differs_is i.tdi.items i.compared.items i.expected.items i.found.items _
+    c.differ_where_set.ensures ∙ differs_is i.tdi.items i.compared.items i.expected.items i.found.items _
     c.self.view_is c.self.invariant c.args.at c.args.width (omega (
       arith,
       c.requires,

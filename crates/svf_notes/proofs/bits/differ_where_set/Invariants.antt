@@ -1,0 +1,13 @@
+use Rattle.std.proofs.Common.{◌≡◌, ◌≤◌, ◌-◌, drop, take}
+use Rattle.ij_bits.specs.BitLists.{has_one}
+use Rattle.svf_notes.specs.Packed.{differing}
+use Rattle.svf_notes.proofs.bits.differ_where_set.Given as goal
+
+abbrev pub invariant-loop-done : goal.invariant-loop-done
+invariant-loop-done l =
+    let bits = differing (take l.width (drop l.at l.marks.items)) (take l.width (drop l.at l.bits.items))
+    (take l.width (drop l.at l.others.items)) in
+    record { within : l.done ≤ l.width; left : has_one (drop l.done bits) ≡ has_one bits }
+
+abbrev pub decreases-loop-done : goal.decreases-loop-done
+decreases-loop-done l = l.width - l.done
