@@ -26,3 +26,4 @@ pub mod FirstRows
 pub mod MuxesMet
 pub mod RowScans
 pub mod RowPlans
+pub mod Steering

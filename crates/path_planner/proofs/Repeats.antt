@@ -20,14 +20,14 @@ use Rattle.net_tree.specs.Places.{place_of}
 use Rattle.path_planner.specs.Collecting.{all_done, settle_writes}
 use Rattle.path_planner.specs.Opening.{CanOpen}
 use Rattle.path_planner.specs.Planning.{IsBranchOf}
-use Rattle.path_planner.specs.Registers.{ends_in, add_register, add_registers}
+use Rattle.path_planner.specs.Registers.{last_reg_is, add_register, add_registers}
 use Rattle.path_planner.proofs.Again.{AreDone, done_again, none_again, now_done}
 use Rattle.path_planner.proofs.Among.{Among, all_among, among-flat, on_true, true_on}
 use Rattle.path_planner.proofs.Joining.{settle_writes-append, length-all_done}
 use Rattle.path_planner.proofs.Opening.{is_needed}
 use Rattle.std.proofs.lemmas.Grind.{flat_map-append}
 
-pub ends_at : (rs : List ℕ) (r : ℕ) → 1 ≤ length rs → (get_or rs (length rs - 1) 0 == r) ≡ ends_in rs r
+pub ends_at : (rs : List ℕ) (r : ℕ) → 1 ≤ length rs → (get_or rs (length rs - 1) 0 == r) ≡ last_reg_is rs r
 ends_at [] r h = absurd (omega (arith, h))
 ends_at (y ∷ []) r h = refl
 ends_at (y ∷ z ∷ rs) r h =
@@ -35,7 +35,7 @@ ends_at (y ∷ z ∷ rs) r h =
     ap (λ k. get_or (y ∷ z ∷ rs) k 0 == r) e ∙ ends_at (z ∷ rs) r (omega arith)
 
 -- what comes before the last element
-before_last : (rs : List ℕ) (r : ℕ) → ends_in rs r ≡ true → (front : List ℕ) × (rs ≡ front ++ r ∷ [])
+before_last : (rs : List ℕ) (r : ℕ) → last_reg_is rs r ≡ true → (front : List ℕ) × (rs ≡ front ++ r ∷ [])
 before_last [] r e = absurd (false≢true e)
 before_last (x ∷ []) r e = ([], ap (λ z. z ∷ []) (eqb-true x r e))
 before_last (x ∷ y ∷ rs) r e = let (front, f) = before_last (y ∷ rs) r e in (x ∷ front, ap (λ l. x ∷ l) f)
@@ -61,7 +61,7 @@ both_added g ws rs none first all e f z h k =
 -- what does not tell a register from two of it in a row does not tell the lists apart
 module _ {X : Type 0} (P : List ℕ → X) (Q : ℕ → Type 0) (twice : (front : List ℕ) (r : ℕ) (rest : List ℕ)
     → Q r → P (front ++ r ∷ (r ∷ rest)) ≡ P (front ++ r ∷ rest)) where
-  one_more : (rs : List ℕ) (r : ℕ) (rest : List ℕ) → Q r → (b : Bool) → ends_in rs r ≡ b
+  one_more : (rs : List ℕ) (r : ℕ) (rest : List ℕ) → Q r → (b : Bool) → last_reg_is rs r ≡ b
       → P (cond b rs (rs ++ r ∷ []) ++ rest) ≡ P (rs ++ r ∷ rest)
   one_more rs r rest q false e = ap P (append_assoc rs (r ∷ []) rest)
   one_more rs r rest q true e =
@@ -76,7 +76,7 @@ module _ {X : Type 0} (P : List ℕ → X) (Q : ℕ → Type 0) (twice : (front 
   same_added rs [] h = ap P (sym (append-nil rs))
   same_added rs (x ∷ xs) h =
       same_added (add_register rs x) xs (λ r a. h r (inr a))
-      ∙ one_more rs x xs (h x (inl refl)) (ends_in rs x) refl
+      ∙ one_more rs x xs (h x (inl refl)) (last_reg_is rs x) refl
 
 abbrev Any : ℕ → Type 0
 Any r = Unit {0}

@@ -2,15 +2,15 @@
 ghost use Rattle.std.specs.Prelude.{◌≡◌, [], map, IfOk, OnOk};
 ghost use Rattle.net_graph.specs.Groups.{registers_of};
 ghost use Rattle.net_graph.specs.SeenSteps.{seen_group};
-ghost use Rattle.path_planner.specs.Registers.{ends_in, add_register, add_registers};
+ghost use Rattle.path_planner.specs.Registers.{last_reg_is, add_register, add_registers};
 
 use ij_bits::{List, OutOfMemory};
 use net_graph::{Group, ReadBit, WriteBit};
 use std::alloc::Global;
 
 /// Whether the last of some registers is this one.
-fn ends_in(regs: &[u32], reg: u32) -> bool
-    ensures { result ≡ ends_in regs.now reg }
+fn last_reg_is(regs: &[u32], reg: u32) -> bool
+    ensures { result ≡ last_reg_is regs.now reg }
 {
     match regs {
         [.., last] => *last == reg,
@@ -22,7 +22,7 @@ fn ends_in(regs: &[u32], reg: u32) -> bool
 fn add_register(regs: &mut List<u32>, reg: u32) -> Result<(), OutOfMemory>
     ensures { OnOk result (regs.new.items ≡ add_register regs.old.items reg) }
 {
-    if !ends_in(regs.as_slice(), reg) {
+    if !last_reg_is(regs.as_slice(), reg) {
         regs.push(reg)?;
     }
     Ok(())

@@ -1,22 +1,28 @@
 // The active path and what it holds, kept from scan to scan.
-ghost use Rattle.std.specs.Prelude.{◌≡◌, ◌≤◌, ◌+◌, length, reverse, IfOk};
+ghost use Rattle.std.specs.Prelude.{◌≡◌, ◌≤◌, ◌+◌, length, map, reverse, All, Contains, IfOk, Some};
+ghost use Rattle.net_graph.specs.Chain.{chain};
 ghost use Rattle.net_graph.specs.Held.{AreHolds};
+ghost use Rattle.net_graph.specs.Named.{IsBitOf};
 ghost use Rattle.net_graph.specs.Nets.{IsNet};
 ghost use Rattle.net_graph.specs.Path as paths;
+ghost use Rattle.net_graph.specs.Resets.{zero_holds};
+ghost use Rattle.net_graph.specs.Writes.{write_all};
 ghost use Rattle.net_tree.specs.Form.{Describes};
 ghost use Rattle.net_tree.specs.ScanPlans.{seen_plan};
 ghost use Rattle.scan_packer.specs.Flushed.{HasFlushRoom, flush_mask, flush_tdi, flush_tdo};
 ghost use Rattle.scan_packer.specs.HeldPaths.{HasPathRoom, IsHeldPath};
-ghost use Rattle.scan_packer.specs.Packed.{tdi_bits};
+ghost use Rattle.scan_packer.specs.Packed.{expected, marked};
 ghost use Rattle.scan_packer.specs.Packing.{CanScan, HasBitRoom};
 
 use crate::fill::fill_held;
 use crate::flush::{fill_compared, fill_expected, fill_marked, scan_bits};
+use crate::packing::fill_reads;
 use crate::put::put_writes;
 use ij_bits::{Bits, OutOfMemory};
-use net_graph::{Holds, Net};
+use net_graph::{Holds, Net, ReadBit, WriteBit};
 use net_tree::{Route, ScanPlan, Tree};
 use std::alloc::Global;
+use std::mem::swap;
 
 /// The active path of a network and what it holds. Scans that begin so need no walk through the network.
 #[derive(Drop)]
@@ -70,6 +76,20 @@ impl HeldPath {
         tree.walk(net, holds, &mut self.route);
         fill_held(&mut self.bits, net, holds, self.route.regs().as_slice());
     }
+
+    /// Leaves here what the same active path holds after a scan, which is what the scan shifted in. The list
+    /// then has what the path held before. Takes no memory.
+    pub fn take_bits(&mut self, _net: &Net, _holds: &Holds, tdi: &mut Bits)
+        requires path { paths.path _net.now _holds.now ≡ Some self.old.route.items }
+        requires bits { tdi.old.items ≡ chain (reverse self.old.route.items) _holds.now }
+        requires room { HasPathRoom _net.now self.old }
+        requires tdi_room { HasBitRoom _net.now tdi.old }
+        ensures held { IsHeldPath _net.now _holds.now self.new }
+        ensures room { HasPathRoom _net.now self.new }
+        ensures tdi_room { HasBitRoom _net.now tdi.new }
+    {
+        swap(&mut self.bits, tdi);
+    }
 }
 
 /// Leaves the same bits in the list. Takes no memory.
@@ -82,22 +102,48 @@ fn fill_same(into: &mut Bits, bits: &Bits)
     into.append_part_reserved(bits, 0, bits.len());
 }
 
-/// Leaves what a plan's scan over a path shifts in in a list, position 0 first. Takes no memory.
-fn fill_planned(net: &Net, _holds: &Holds, path: &HeldPath, plan: &ScanPlan, tdi: &mut Bits)
+/// Leaves what a scan over a kept path shifts in in a list, position 0 (nearest TDO) first: what the path
+/// holds after some writes. The room of the list stays. Takes no memory.
+pub fn pack_tdi_on(net: &Net, _holds: &Holds, path: &HeldPath, writes: &[WriteBit], tdi: &mut Bits)
     requires well_formed { IsNet net.now }
-    requires plan { CanScan net.now _holds.now (seen_plan plan.now) }
+    requires holds { AreHolds net.now _holds.now }
     requires held { IsHeldPath net.now _holds.now path.now }
+    requires bits { All (λ w. IsBitOf net.now w.bit) writes.now }
+    requires on_path { All (λ w. Contains path.now.route.items w.bit.reg) writes.now }
     requires tdi_room { HasBitRoom net.now tdi.old }
-    ensures tdi { tdi.new.items ≡ tdi_bits _holds.now (reverse path.now.route.items) (seen_plan plan.now) }
+    ensures tdi { tdi.new.items ≡ chain (reverse path.now.route.items) (write_all _holds.now writes.now) }
     ensures tdi_room { length tdi.new.items + tdi.new.spare ≡ length tdi.old.items + tdi.old.spare }
 {
     fill_same(tdi, &path.bits);
-    put_writes(
-        tdi,
-        net,
-        path.route.regs().as_slice(),
-        plan.writes.as_slice(),
-    );
+    put_writes(tdi, net, path.route.regs().as_slice(), writes);
+}
+
+/// Leaves what a scan over a kept path expects, and where that is compared, in two lists, position 0 first.
+/// The room of the lists stays. Takes no memory.
+pub fn pack_reads_on(
+    net: &Net,
+    _holds: &Holds,
+    path: &HeldPath,
+    reads: &[ReadBit],
+    tdo: &mut Bits,
+    mask: &mut Bits,
+)
+    requires well_formed { IsNet net.now }
+    requires holds { AreHolds net.now _holds.now }
+    requires held { IsHeldPath net.now _holds.now path.now }
+    requires bits { All (λ r. IsBitOf net.now r.bit) reads.now }
+    requires on_path { All (λ r. Contains path.now.route.items r.bit.reg) reads.now }
+    requires tdo_room { HasBitRoom net.now tdo.old }
+    requires mask_room { HasBitRoom net.now mask.old }
+    ensures tdo { tdo.new.items ≡ chain (reverse path.now.route.items)
+        (write_all (zero_holds net.now) (map expected reads.now)) }
+    ensures mask { mask.new.items ≡ chain (reverse path.now.route.items)
+        (write_all (zero_holds net.now) (map marked reads.now)) }
+    ensures tdo_room { length tdo.new.items + tdo.new.spare ≡ length tdo.old.items + tdo.old.spare }
+    ensures mask_room { length mask.new.items + mask.new.spare ≡ length mask.old.items + mask.old.spare }
+{
+    let regs = path.route.regs().as_slice();
+    fill_reads(net, regs, path.bits.len(), reads, tdo, mask);
 }
 
 /// Leaves the bits of a plan's flush in three lists, as [`pack_flush`](crate::pack_flush) does, by the active
@@ -125,7 +171,7 @@ pub fn pack_flush_on(
     ensures tdo_room { length tdo.new.items + tdo.new.spare ≡ length tdo.old.items + tdo.old.spare }
     ensures mask_room { length mask.new.items + mask.new.spare ≡ length mask.old.items + mask.old.spare }
 {
-    fill_planned(net, _holds, path, plan, tdo);
+    pack_tdi_on(net, _holds, path, plan.writes.as_slice(), tdo);
     let bits = tdo.len();
     let zeros = path.scan_bits;
     fill_marked(tdi, zeros, tdo);

@@ -10,14 +10,14 @@ use Rattle.scan_packer.proofs.Rooms.{reads_on, zero_shape}
 use Rattle.scan_packer.proofs.Routes.{is_route, can_pack}
 use Rattle.scan_packer.proofs.packing.pack.Goals as goal
 
-pub fill_compared-requires-clause-route : goal.fill_compared-requires-clause-route
-fill_compared-requires-clause-route c =
+pub fill_reads-requires-clause-route : goal.fill_reads-requires-clause-route
+fill_reads-requires-clause-route c =
     is_route c.args.net.now c.args.holds.now c.pack_tdi.new.route.items c.pack_tdi.ensures.path
     c.requires.well_formed c.as_slice-path.result.now
     (c.as_slice-path.ensures ∙ ap (λ (l : Listed ℕ). l.items) c.regs.ensures)
 
-pub fill_compared-requires-clause-count : goal.fill_compared-requires-clause-count
-fill_compared-requires-clause-count c =
+pub fill_reads-requires-clause-count : goal.fill_reads-requires-clause-count
+fill_reads-requires-clause-count c =
     let net = c.args.net.now in
     let holds = c.args.holds.now in
     let route = c.pack_tdi.new.route.items in
@@ -31,8 +31,8 @@ fill_compared-requires-clause-count c =
     ∙ length-chain_same (reverse path) holds (zero_holds net)
     (held.widths ∙ sym (zero_shape net (reverse path) c.requires.well_formed r))
 
-pub fill_compared-requires-clause-on_path : goal.fill_compared-requires-clause-on_path
-fill_compared-requires-clause-on_path c =
+pub fill_reads-requires-clause-on_path : goal.fill_reads-requires-clause-on_path
+fill_reads-requires-clause-on_path c =
     reads_on c.args.net.now c.args.holds.now c.as_slice-path.result.now c.args.plan.now.writes.items
     c.as_slice.result.now (can_pack c.args.net.now c.args.holds.now c.pack_tdi.new.route.items
     c.pack_tdi.ensures.path c.as_slice-path.result.now

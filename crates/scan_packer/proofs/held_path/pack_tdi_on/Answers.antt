@@ -1,21 +1,21 @@
-use Rattle.std.proofs.Common.{ℕ, length, refl, sym, ap, ◌∙◌, arith}
-use Rattle.std.specs.Prelude.{reverse}
+use Rattle.std.proofs.Common.{ℕ, List, length, refl, sym, ap, ◌∙◌, arith, subst}
+use Rattle.std.specs.Prelude.{reverse, All, Contains}
 use Rattle.ij_bits.specs.Room.{Listed}
 use Rattle.net_graph.specs.Chain.{chain}
 use Rattle.net_graph.specs.Resets.{zero_holds}
 use Rattle.net_graph.proofs.Shapes.{length-chain_same}
-use Rattle.net_tree.specs.ScanPlans.{seen_plan}
-use Rattle.scan_packer.proofs.Flushing.{path_few}
-use Rattle.scan_packer.proofs.Rooms.{all_there, chain_short, writes_on, zero_shape}
-use Rattle.scan_packer.proofs.Routes.{can_pack, is_route}
-use Rattle.scan_packer.proofs.held_path.fill_planned.Goals as goal
+use Rattle.scan_packer.proofs.Rooms.{all_there, chain_few, chain_short, zero_shape}
+use Rattle.scan_packer.proofs.Routes.{is_route}
+use Rattle.scan_packer.proofs.held_path.pack_tdi_on.Goals as goal
 
 pub fill_same-requires : goal.fill_same-requires
 fill_same-requires c =
+    let net = c.args.net.now in
+    let route = c.args.path.now.route.items in
     omega (
       arith,
-      path_few c.args.net.now c.args._holds.now c.args.path.now.route.items
-          (seen_plan c.args.plan.now) c.requires.well_formed c.requires.held.path c.requires.plan,
+      chain_few net (reverse route) c.requires.well_formed (is_route net c.args._holds.now route
+          c.requires.held.path c.requires.well_formed route refl) c.args._holds.now c.requires.holds,
       ap length c.requires.held.bits,
       c.requires.tdi_room,
     )
@@ -34,11 +34,8 @@ put_writes-requires-clause-there c =
 
 pub put_writes-requires-clause-on_path : goal.put_writes-requires-clause-on_path
 put_writes-requires-clause-on_path c =
-    writes_on c.args.net.now c.args._holds.now c.as_slice.result.now c.as_slice-2.result.now
-    c.args.plan.now.reads.items (can_pack c.args.net.now c.args._holds.now c.args.path.now.route.items
-    c.requires.held.path c.as_slice.result.now
-    (seen_plan c.args.plan.now) c.as_slice-2.result.now c.args.plan.now.reads.items c.requires.plan
-    (c.as_slice.ensures ∙ ap (λ (l : Listed ℕ). l.items) c.regs.ensures) c.as_slice-2.ensures refl)
+    subst (λ (path : List ℕ). All (λ w. Contains path w.bit.reg) c.args.writes.now)
+    (sym (c.as_slice.ensures ∙ ap (λ (l : Listed ℕ). l.items) c.regs.ensures)) c.requires.on_path
 
 pub put_writes-requires-clause-short : goal.put_writes-requires-clause-short
 put_writes-requires-clause-short c =
@@ -58,10 +55,7 @@ put_writes-requires-clause-long c =
     let path = reverse c.as_slice.result.now in
     let route = is_route net holds c.args.path.now.route.items c.requires.held.path
     c.requires.well_formed c.as_slice.result.now same in
-    let packed = can_pack net holds c.args.path.now.route.items c.requires.held.path c.as_slice.result.now
-    (seen_plan c.args.plan.now) c.as_slice-2.result.now c.args.plan.now.reads.items
-    c.requires.plan same c.as_slice-2.ensures refl in
     ap length (c.fill_same.ensures.items ∙ c.requires.held.bits
     ∙ ap (λ r. chain (reverse r) holds) (sym same))
     ∙ length-chain_same path holds (zero_holds net)
-    (packed.widths ∙ sym (zero_shape net path c.requires.well_formed route))
+    (c.requires.holds ∙ sym (zero_shape net path c.requires.well_formed route))

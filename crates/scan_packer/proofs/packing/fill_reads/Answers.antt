@@ -2,7 +2,7 @@ use Rattle.std.proofs.Common.{false, length, sym, ap, ◌∙◌, arith}
 use Rattle.std.specs.Prelude.{replicate, reverse}
 use Rattle.net_graph.specs.Resets.{zero_holds}
 use Rattle.scan_packer.proofs.Rooms.{chain_few, zero_chain, zero_shape, all_there}
-use Rattle.scan_packer.proofs.packing.fill_compared.Goals as goal
+use Rattle.scan_packer.proofs.packing.fill_reads.Goals as goal
 
 pub fill_zeros-requires-clause-room : goal.fill_zeros-requires-clause-room
 fill_zeros-requires-clause-room c =
