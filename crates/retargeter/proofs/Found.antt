@@ -31,7 +31,7 @@ use Rattle.headline.proofs.Scanned.{scans_listed}
 
 module _ (net : Net) (form : Items) (g : SeenGroup) where
   -- an opening is made of plans
-  plans_of : (hs : List Holds) (holds : Holds) → CanOpen net form g holds
+  pub plans_of : (hs : List Holds) (holds : Holds) → CanOpen net form g holds
       → ¬ IsEmpty g → IsOpening net form g holds hs
       → (p : SeenGroup) × (ps : List SeenGroup) × ArePlans net form g holds (p ∷ ps)
   plans_of [] holds c named o = (g, [], (named, refl, o))

@@ -1,9 +1,9 @@
 pub mod Texts
 pub mod Packing
 pub mod Scanning
-pub mod Plans
 pub mod Found
 pub mod Same
+pub mod Opened
 pub mod Going
 pub mod Steps
 pub mod Scripts

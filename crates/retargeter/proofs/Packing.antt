@@ -1,7 +1,9 @@
 -- What is packed for a plan is the plan's scan.
-use Rattle.std.proofs.Common.{◌≡◌, ℕ, Bool, true, false, List, [], ◌∷◌, length, Option, Some, None, refl, sym}
+use Rattle.std.proofs.Common.{◌≡◌, ℕ, suc, arith, Bool, true, false, List, [], ◌∷◌, length, Option, Some}
+use Rattle.std.proofs.Common.{None, refl, sym}
 use Rattle.std.proofs.Common.{ap, ◌∙◌}
-use Rattle.std.specs.Prelude.{cond, reverse, unwrap_or}
+use Rattle.std.specs.Prelude.{◌==◌, cond, reverse, unwrap_or}
+use Rattle.std.proofs.lemmas.Bool.{eqb-true, false≢true}
 use Rattle.std.proofs.lemmas.List.{reverse-reverse}
 use Rattle.net_graph.specs.Chain.{chain}
 use Rattle.net_graph.specs.declared.net.Net.{Net}
@@ -17,6 +19,14 @@ use Rattle.tap_machine.specs.Play.{is_empty}
 use Rattle.headline.specs.Scans.{scan_of}
 use Rattle.retargeter.specs.Packed.{quiet_scan, comparing_scan}
 use Rattle.ij_bits.proofs.Lists.{map_some}
+
+-- whether a scan reads, by the test of the code
+pub none : (rs : List ReadBit) → (length rs == 0) ≡ true → rs ≡ []
+none [] e = refl
+none (r ∷ rs) e = let z : suc (length rs) ≡ 0 = eqb-true (suc (length rs)) 0 e in absurd (omega (arith, z))
+
+pub some : (rs : List ReadBit) → (length rs == 0) ≡ false → ¬ (rs ≡ [])
+some rs e n = false≢true (sym e ∙ ap (λ z. length z == 0) n)
 
 some_read : (rs : List ReadBit) → ¬ (rs ≡ []) → is_empty rs ≡ false
 some_read [] n = absurd (n refl)

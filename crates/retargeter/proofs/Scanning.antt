@@ -1,33 +1,33 @@
--- Plans of a group can be scanned, one after the other.
-use Rattle.std.proofs.Common.{◌≡◌, true, List, [], ◌∷◌, sym, subst}
+-- The scans of a group's plans can be done.
+use Rattle.std.proofs.Common.{◌≡◌, true, List, [], ◌∷◌, ◌++◌, refl, sym, ap, ◌∙◌, subst}
 use Rattle.std.specs.Prelude.{All, map, IsTrue}
+use Rattle.std.proofs.lemmas.List.{append-nil}
 use Rattle.std.proofs.lemmas.List.Elements.{All-nil, All-weaker}
 use Rattle.ij_bits.specs.Different.{AreDifferent}
 use Rattle.net_graph.specs.declared.net.BitId.{BitId}
 use Rattle.net_graph.specs.declared.net.Net.{Net}
 use Rattle.net_graph.specs.declared.step.ReadBit.{ReadBit}
 use Rattle.net_graph.specs.declared.step.WriteBit.{WriteBit}
-use Rattle.net_graph.specs.Groups.{registers_of}
-use Rattle.net_graph.specs.Held.{IsHeld}
+use Rattle.net_graph.specs.Groups.{registers_of, IsEmpty}
 use Rattle.net_graph.specs.Named.{IsBitOf}
 use Rattle.net_graph.specs.Path.{is_select, select_bits}
 use Rattle.net_graph.specs.SeenSteps.{SeenGroup}
 use Rattle.net_graph.specs.Signals.{Holds}
 use Rattle.net_graph.specs.Steps.{IsDataBit}
 use Rattle.net_graph.specs.Writes.{write_all}
-use Rattle.net_graph.proofs.Selecting.{is_held}
 use Rattle.net_tree.specs.Form.{Items}
 use Rattle.path_planner.specs.Least.{AreOnPath}
 use Rattle.path_planner.specs.Opening.{CanOpen}
-use Rattle.path_planner.specs.Plans.{ArePlans, Settles, AreScans}
+use Rattle.path_planner.specs.Plans.{Settles, AreScans}
+use Rattle.path_planner.specs.Scannable.{IsScannable}
+use Rattle.path_planner.specs.Settling.{all_on}
 use Rattle.path_planner.proofs.Among.{all_among, among_all}
 use Rattle.path_planner.proofs.Apart.{in_part}
-use Rattle.path_planner.proofs.PlanSteps.{can_go_on}
+use Rattle.path_planner.proofs.Plans.{planned}
 use Rattle.path_planner.proofs.Step.{selected}
 use Rattle.path_planner.proofs.Values.{select_there}
-use Rattle.scan_packer.specs.Packing.{CanScan}
+use Rattle.scan_packer.specs.Packing.{CanScan, plan_of}
 pub use Rattle.scan_packer.proofs.Held.{plan_held}
-use Rattle.retargeter.specs.Scanning.{CanScanAll}
 
 module _ (net : Net) (form : Items) (g : SeenGroup) where
   module _ (holds : Holds) (c : CanOpen net form g holds) where
@@ -38,8 +38,8 @@ module _ (net : Net) (form : Items) (g : SeenGroup) where
         select_there net m b c.well_formed l a
 
     -- the group itself
-    group_scan : AreOnPath net (registers_of g) holds → CanScan net holds g
-    group_scan (path, e, on) = (
+    group_on : AreOnPath net (registers_of g) holds → CanScan net holds g
+    group_on (path, e, on) = (
       path,
       e,
       record {
@@ -56,9 +56,9 @@ module _ (net : Net) (form : Items) (g : SeenGroup) where
     )
 
     -- a plan that opens the way to it
-    opening_scan : (p : SeenGroup) → Settles net form g holds p
+    opening_on : (p : SeenGroup) → Settles net form g holds p
         → AreOnPath net (registers_of p) holds → CanScan net holds p
-    opening_scan p s (path, e, on) = (
+    opening_on p s (path, e, on) = (
       path,
       e,
       record {
@@ -74,17 +74,23 @@ module _ (net : Net) (form : Items) (g : SeenGroup) where
       },
     )
 
-  pub can_scan_all : (holds : Holds) (ps : List SeenGroup) → CanOpen net form g holds
-      → ArePlans net form g holds ps → AreScans net holds ps → CanScanAll net holds ps
-  can_scan_all holds [] c a s = s
-  can_scan_all holds (p ∷ []) c a s = (
-    s.0.scannable,
-    subst (CanScan net holds) (sym a.1)
-        (group_scan holds c (subst (λ z. AreOnPath net (registers_of z) holds) a.1 s.0.named)),
-    s.1,
-  )
-  can_scan_all holds (p ∷ (q ∷ ps)) c a s = (
-    s.0.scannable,
-    opening_scan holds c p a.0 s.0.named,
-    can_scan_all (write_all holds p.writes) (q ∷ ps) (can_go_on net form g holds c p a.0) a.1 s.1,
-  )
+    pub opening_scan : (p : SeenGroup) → Settles net form g holds p → CanScan net holds p
+    opening_scan p s =
+        opening_on p s (subst (λ rs. AreOnPath net rs holds)
+        (sym (ap (λ rs. map (λ w. w.bit.reg) p.writes ++ map (λ r. r.bit.reg) rs) s.reads_nothing
+        ∙ append-nil (map (λ w. w.bit.reg) p.writes))) s.on_path)
+
+    module _ (named : ¬ IsEmpty g) (t : all_on net (registers_of g) holds ≡ true) where
+      alone : AreScans net holds (g ∷ [])
+      alone = (planned net form g holds (g ∷ []) c (named, refl, t)).scans
+
+      pub group_scan : CanScan net holds g
+      group_scan = group_on alone.0.named
+
+      pub group_listed : IsScannable net (write_all holds g.writes)
+      group_listed = alone.1
+
+-- a plan by its two lists
+pub plan_same : (ws us : List WriteBit) (rs qs : List ReadBit)
+    → ws ≡ us → rs ≡ qs → plan_of ws rs ≡ plan_of us qs
+plan_same ws us rs qs e f = λ i. record { writes = e i; reads = f i }

@@ -3,7 +3,6 @@ pub mod Plans
 -- how the code goes
 pub mod Room
 pub mod Packed
-pub mod Scanning
 pub mod Session
 pub mod Writing
 pub mod Scripts

@@ -5,14 +5,11 @@ ghost use Rattle.retargeter.specs.Room.{HasScanRoom};
 
 use ij_bits::{Bits, OutOfMemory};
 use net_graph::Net;
-use net_tree::Route;
 use std::alloc::Global;
 
-/// The path of a scan and its bits, position 0 (nearest TDO) first, in room that is made once.
+/// The bits of a scan, position 0 (nearest TDO) first, in room that is made once.
 #[derive(Drop)]
 pub(crate) struct Buffers {
-    /// The registers of the active path.
-    pub route: Route,
     /// What is shifted in.
     pub tdi: Bits,
     /// What is expected.
@@ -35,12 +32,11 @@ fn bits_with_room(alloc: Global) -> Result<Bits, OutOfMemory>
 
 impl Buffers {
     /// Room for the scans of a network.
-    pub fn new(alloc: Global, net: &Net) -> Result<Self, OutOfMemory>
-        requires well_formed { IsNet net.now }
-        ensures { IfOk result (HasScanRoom net.now) }
+    pub fn new(alloc: Global, _net: &Net) -> Result<Self, OutOfMemory>
+        requires well_formed { IsNet _net.now }
+        ensures { IfOk result (HasScanRoom _net.now) }
     {
         Ok(Buffers {
-            route: Route::new(alloc, net)?,
             tdi: bits_with_room(alloc)?,
             tdo: bits_with_room(alloc)?,
             mask: bits_with_room(alloc)?,

@@ -18,6 +18,7 @@ use ij_bits::OutOfMemory;
 use ij_io::{Sink, StoreFault};
 use net_graph::{BitStep, Device, Group, Holds, Net};
 use net_tree::Tree;
+use scan_packer::HeldPath;
 use std::alloc::Global;
 use std::marker::Model;
 use svf_writer::{Command, put, put_reset};
@@ -34,6 +35,7 @@ pub struct Retargeter<'a> {
     tree: &'a Tree,
     device: &'a Device,
     holds: Holds,
+    path: HeldPath,
     applies: u32,
     buffers: Buffers,
 }
@@ -41,6 +43,7 @@ pub struct Retargeter<'a> {
 impl<'a> Model for Retargeter<'a> {
     ghost use Rattle.std.specs.Coded.{codes};
     ghost use Rattle.net_tree.specs.FormCode.{form_code};
+    ghost use Rattle.scan_packer.specs.HeldPaths.{HasPathRoom, IsHeldPath};
     ghost use Rattle.retargeter.specs.Room.{HasScanRoom};
     ghost use Rattle.retargeter.specs.Session.{Session, IsReady};
 
@@ -62,7 +65,8 @@ impl<'a> Model for Retargeter<'a> {
       device = r.device.now;
       holds = r.holds;
       applies = r.applies;
-    }) × HasScanRoom r.net.now r.buffers };
+    }) × IsHeldPath r.net.now r.holds r.path × HasPathRoom r.net.now r.path
+        × HasScanRoom r.net.now r.buffers };
 }
 
 /// Writes a run of this many cycles.
@@ -94,12 +98,15 @@ impl<'a> Retargeter<'a> {
           applies = 0;
         }) }
     {
+        let holds = Holds::power_up(alloc, net)?;
+        let path = HeldPath::of(alloc, net, tree, &holds)?;
         Ok(Retargeter {
             alloc,
             net,
             tree,
             device,
-            holds: Holds::power_up(alloc, net)?,
+            holds,
+            path,
             applies: 0,
             buffers: Buffers::new(alloc, net)?,
         })
@@ -174,9 +181,10 @@ impl<'a> Retargeter<'a> {
             self.alloc,
             self.net,
             self.tree,
-            &mut self.holds,
             self.applies + 1,
             rounds,
+            &mut self.holds,
+            &mut self.path,
             &mut self.buffers,
             k,
         )?;
@@ -193,6 +201,7 @@ impl<'a> Retargeter<'a> {
     {
         put_reset(self.device, k)?;
         self.holds.reset(self.net);
+        self.path.find(self.net, self.tree, &self.holds);
         Ok(())
     }
 }

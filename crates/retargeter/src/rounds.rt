@@ -4,6 +4,7 @@ ghost use Rattle.ij_io.specs.Bytes.{Adds, AddsPart};
 ghost use Rattle.ij_io.specs.Causes.{HasCause};
 ghost use Rattle.net_graph.specs.SeenSteps.{seen_group};
 ghost use Rattle.path_planner.specs.Scannable.{IsScannable};
+ghost use Rattle.scan_packer.specs.HeldPaths.{HasPathRoom, IsHeldPath};
 ghost use Rattle.headline.specs.Rounds.{IsPlannable};
 ghost use Rattle.headline.specs.Retargeting.{IsRetargetable};
 ghost use Rattle.retargeter.specs.Room.{HasScanRoom};
@@ -15,12 +16,13 @@ use crate::scans::put_group;
 use ij_io::{Sink, StoreFault};
 use net_graph::{Group, Holds, Net};
 use net_tree::Tree;
+use scan_packer::HeldPath;
 use std::alloc::Global;
 use svf_writer::{put_mark, put_round};
 
 /// Writes the comment before a round, by the numbers of its iApply and of the round, counted from 1. Takes no
 /// memory.
-fn put_front<K: Sink>(apply: u32, round: u32, k: &mut K) -> Result<(), StoreFault>
+fn put_comment<K: Sink>(apply: u32, round: u32, k: &mut K) -> Result<(), StoreFault>
     requires some { 1 ≤ round }
     ensures whole { OnOk result (Adds (K.taken k.old) (K.taken k.new) (front apply round)) }
     ensures part { OnErr result (AddsPart (K.taken k.old) (K.taken k.new) (front apply round)) }
@@ -38,10 +40,11 @@ fn put_marked<K: Sink>(
     alloc: Global,
     net: &Net,
     tree: &Tree,
-    holds: &mut Holds,
     apply: u32,
     round: u32,
     group: &Group,
+    holds: &mut Holds,
+    path: &mut HeldPath,
     buffers: &mut Buffers,
     k: &mut K,
 ) -> Result<(), StoreFault>
@@ -49,6 +52,8 @@ fn put_marked<K: Sink>(
     requires scannable { IsScannable net.now holds.old }
     requires some { 1 ≤ round }
     requires group { IsPlannable net.now tree.now (seen_group group.now) }
+    requires path { IsHeldPath net.now holds.old path.old }
+    requires path_room { HasPathRoom net.now path.old }
     requires room { HasScanRoom net.now buffers.old }
     ensures whole { OnOk result (WritesRound net.now tree.now holds.old apply round
         (seen_group group.now) (K.taken k.old) (K.taken k.new)) }
@@ -57,10 +62,12 @@ fn put_marked<K: Sink>(
     ensures cause { HasCause (K.faults k.old) (K.faults k.new) result StoreFault.Failed }
     ensures holds { OnOk result (IsAfterGroup net.now tree.now holds.old (seen_group group.now) holds.new) }
     ensures scannable { IsScannable net.now holds.new }
+    ensures path { IsHeldPath net.now holds.new path.new }
+    ensures path_room { HasPathRoom net.now path.new }
     ensures room { HasScanRoom net.now buffers.new }
 {
-    put_front(apply, round, k)?;
-    put_group(alloc, net, tree, holds, group, buffers, k)?;
+    put_comment(apply, round, k)?;
+    put_group(alloc, net, tree, group, holds, path, buffers, k)?;
     Ok(())
 }
 
@@ -70,9 +77,10 @@ pub(crate) fn put_rounds<K: Sink>(
     alloc: Global,
     net: &Net,
     tree: &Tree,
-    holds: &mut Holds,
     apply: u32,
     rounds: &[Group],
+    holds: &mut Holds,
+    path: &mut HeldPath,
     buffers: &mut Buffers,
     k: &mut K,
 ) -> Result<(), StoreFault>
@@ -80,6 +88,8 @@ pub(crate) fn put_rounds<K: Sink>(
     requires scannable { IsScannable net.now holds.old }
     requires groups { All (IsPlannable net.now tree.now) (map seen_group rounds.now) }
     requires few { length rounds.now ≤ 4096 }
+    requires path { IsHeldPath net.now holds.old path.old }
+    requires path_room { HasPathRoom net.now path.old }
     requires room { HasScanRoom net.now buffers.old }
     ensures whole { OnOk result (WritesRounds net.now tree.now holds.old apply
         (map seen_group rounds.now) (K.taken k.old) (K.taken k.new)) }
@@ -89,11 +99,15 @@ pub(crate) fn put_rounds<K: Sink>(
     ensures holds { OnOk result
         (IsAfterRounds net.now tree.now holds.old apply (map seen_group rounds.now) holds.new) }
     ensures scannable { IsScannable net.now holds.new }
+    ensures path { IsHeldPath net.now holds.new path.new }
+    ensures path_room { HasPathRoom net.now path.new }
     ensures room { HasScanRoom net.now buffers.new }
 {
     let mut round = 1;
     for group in rounds {
-        put_marked(alloc, net, tree, holds, apply, round, group, buffers, k)?;
+        put_marked(
+            alloc, net, tree, apply, round, group, holds, path, buffers, k,
+        )?;
         round += 1;
     }
     Ok(())

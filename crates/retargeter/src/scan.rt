@@ -1,13 +1,13 @@
 // The text of one scan (Serial Vector Format, revision E: SDR).
-ghost use Rattle.std.specs.Prelude.{OnOk, OnErr};
+ghost use Rattle.std.specs.Prelude.{◌≡◌, reverse, OnOk, OnErr};
 ghost use Rattle.ij_io.specs.Bytes.{Adds, AddsPart};
 ghost use Rattle.ij_io.specs.Causes.{HasCause};
+ghost use Rattle.net_graph.specs.Chain.{chain};
 ghost use Rattle.net_graph.specs.Nets.{IsNet};
 ghost use Rattle.net_graph.specs.Path.{route_of};
-ghost use Rattle.net_tree.specs.Form.{Describes};
-ghost use Rattle.net_tree.specs.ScanPlans.{seen_plan};
-ghost use Rattle.path_planner.specs.Scannable.{IsScannable};
-ghost use Rattle.scan_packer.specs.Packing.{CanScan};
+ghost use Rattle.net_graph.specs.Writes.{write_all};
+ghost use Rattle.scan_packer.specs.HeldPaths.{IsHeldPath};
+ghost use Rattle.scan_packer.specs.Packing.{CanScan, plan_of};
 ghost use Rattle.svf_writer.specs.SeenCommands.{SDR};
 ghost use Rattle.svf_writer.specs.Written.{text_of};
 ghost use Rattle.headline.specs.Scans.{scan_of};
@@ -17,9 +17,8 @@ ghost use Rattle.retargeter.specs.Packed.{quiet_scan, comparing_scan};
 use crate::buffers::Buffers;
 use ij_bits::Bits;
 use ij_io::{Sink, StoreFault, Word, put_words};
-use net_graph::{Holds, Net};
-use net_tree::{ScanPlan, Tree};
-use scan_packer::pack;
+use net_graph::{Holds, Net, ReadBit, WriteBit};
+use scan_packer::{HeldPath, pack_reads_on, pack_tdi_on};
 use svf_writer::put_list;
 
 /// Writes a scan that compares nothing.
@@ -59,40 +58,36 @@ fn put_scan_compared<'a, K: Sink>(
     Ok(())
 }
 
-/// Writes the scan of a plan. Takes no memory.
-pub(crate) fn put_plan<K: Sink>(
+/// Writes a scan over a kept path that writes and reads these bits, with TDO and MASK where it reads some,
+/// and leaves what it shifts in in the buffers. Takes no memory.
+pub(crate) fn put_scan_on<K: Sink>(
     net: &Net,
-    tree: &Tree,
     holds: &Holds,
-    plan: &ScanPlan,
+    path: &HeldPath,
+    writes: &[WriteBit],
+    reads: &[ReadBit],
     buffers: &mut Buffers,
     k: &mut K,
 ) -> Result<(), StoreFault>
     requires well_formed { IsNet net.now }
-    requires tree { Describes net.now tree.now }
-    requires scannable { IsScannable net.now holds.now }
-    requires plan { CanScan net.now holds.now (seen_plan plan.now) }
+    requires path { IsHeldPath net.now holds.now path.now }
+    requires plan { CanScan net.now holds.now (plan_of writes.now reads.now) }
     requires room { HasScanRoom net.now buffers.old }
     ensures whole { OnOk result (Adds (K.taken k.old) (K.taken k.new)
-        (text_of (SDR (scan_of net.now holds.now (route_of net.now holds.now) (seen_plan plan.now))))) }
+        (text_of (SDR (scan_of net.now holds.now (route_of net.now holds.now)
+        (plan_of writes.now reads.now))))) }
     ensures part { OnErr result (AddsPart (K.taken k.old) (K.taken k.new)
-        (text_of (SDR (scan_of net.now holds.now (route_of net.now holds.now) (seen_plan plan.now))))) }
+        (text_of (SDR (scan_of net.now holds.now (route_of net.now holds.now)
+        (plan_of writes.now reads.now))))) }
     ensures cause { HasCause (K.faults k.old) (K.faults k.new) result StoreFault.Failed }
+    ensures tdi { buffers.new.tdi.items
+        ≡ chain (reverse path.now.route.items) (write_all holds.now writes.now) }
     ensures room { HasScanRoom net.now buffers.new }
 {
-    pack(
-        net,
-        tree,
-        holds,
-        plan,
-        &mut buffers.route,
-        &mut buffers.tdi,
-        &mut buffers.tdo,
-        &mut buffers.mask,
-    );
-    if plan.reads.is_empty() {
-        put_scan(&buffers.tdi, k)
-    } else {
-        put_scan_compared(&buffers.tdi, &buffers.tdo, &buffers.mask, k)
+    pack_tdi_on(net, holds, path, writes, &mut buffers.tdi);
+    if reads.is_empty() {
+        return put_scan(&buffers.tdi, k);
     }
+    pack_reads_on(net, holds, path, reads, &mut buffers.tdo, &mut buffers.mask);
+    put_scan_compared(&buffers.tdi, &buffers.tdo, &buffers.mask, k)
 }

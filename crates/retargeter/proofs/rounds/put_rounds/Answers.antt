@@ -29,6 +29,8 @@ loop-group-preserved g c =
           c.loop-group.invariant.round next c.in_ok-put_marked.ensures.whole c.in_ok-put_marked.ensures.holds;
       round = omega (arith, c.loop-group.invariant.round);
       scannable = c.put_marked.ensures.scannable;
+      path = c.put_marked.ensures.path;
+      path_room = c.put_marked.ensures.path_room;
       room = c.put_marked.ensures.room;
       later = omega (arith, c.put_marked.ensures.cause.later, c.loop-group.invariant.later);
     }

@@ -7,6 +7,18 @@ use Rattle.retargeter.specs.Writing.{WritesStep}
 use Rattle.retargeter.proofs.Steps.{reset_written}
 use Rattle.retargeter.proofs.retargeter.Retargeter.write_reset.Goals as goal
 
+pub find-requires-clause-holds : goal.find-requires-clause-holds
+find-requires-clause-holds g c =
+    (subst (IsScannable c.self.inside.net.now) (sym c.reset.ensures) (reset_scannable c.self.inside.net.now
+    c.self.inside.tree.now c.self.invariant.0.network.lawful c.self.inside.holds
+    c.self.invariant.0.scannable)).widths
+
+pub find-requires-clause-listed : goal.find-requires-clause-listed
+find-requires-clause-listed g c =
+    (subst (IsScannable c.self.inside.net.now) (sym c.reset.ensures) (reset_scannable c.self.inside.net.now
+    c.self.inside.tree.now c.self.invariant.0.network.lawful c.self.inside.holds
+    c.self.invariant.0.scannable)).rows
+
 pub invariant_of-self : goal.invariant_of-self
 invariant_of-self g c =
     let ready = c.self.invariant.0 in (
@@ -17,7 +29,9 @@ invariant_of-self g c =
             (IsScannable c.self.inside.net.now) (sym c.reset.ensures) (reset_scannable c.self.inside.net.now
             c.self.inside.tree.now ready.network.lawful c.self.inside.holds ready.scannable);
       },
-      c.self.invariant.1,
+      c.find.ensures.held,
+      c.find.ensures.room,
+      c.self.invariant.3,
     )
 
 pub returns-clause-whole : goal.returns-clause-whole
