@@ -39,7 +39,8 @@ next-requires-clause-path g c =
 pub returns-in_err-plan-clause-part : goal.returns-in_err-plan-clause-part
 returns-in_err-plan-clause-part g c =
     at_refusal _ (stopped c.args.net.now c.args.tree.now (seen_group c.args.group.now)
-    c.args.holds.now (g.K.Sink.taken c.args.k.now) c.opening.scans c.opening.holds (g.K.Sink.taken c.opening.k)
+    c.args.holds.now (g.K.Sink.taken c.args.k.now) c.opening.scans c.opening.holds
+    (g.K.Sink.taken c.opening.k)
     c.opening.invariant.opened c.requires.group.named)
 
 pub returns-in_err-put_opening-clause-part : goal.returns-in_err-put_opening-clause-part
@@ -47,7 +48,8 @@ returns-in_err-put_opening-clause-part g c =
     let s = subst (λ o. IfSome o (λ plan. Settles c.args.net.now c.args.tree.now
     (seen_group c.args.group.now) c.opening.holds (seen_plan plan))) c.in-Some.is c.in_ok-plan.ensures.some in
     at_refusal _ (refused c.args.net.now c.args.tree.now (seen_group c.args.group.now)
-    c.args.holds.now (g.K.Sink.taken c.args.k.now) c.opening.scans c.opening.holds (g.K.Sink.taken c.opening.k)
+    c.args.holds.now (g.K.Sink.taken c.args.k.now) c.opening.scans c.opening.holds
+    (g.K.Sink.taken c.opening.k)
     c.opening.invariant.opened c.requires.group.named (seen_plan c.in-Some.plan) s
     (g.K.Sink.taken c.put_opening.new.k) c.in_err-put_opening.ensures.part)
 
@@ -95,19 +97,22 @@ pub returns-clause-whole : goal.returns-clause-whole
 returns-clause-whole g c =
     let t = c.in_ok-plan.ensures.none (ap is_some c.in_default.is) in
     on_ok_weaker c.put_last.result (all_written c.args.net.now c.args.tree.now (seen_group c.args.group.now)
-    c.args.holds.now (g.K.Sink.taken c.args.k.now) c.opening.scans c.opening.holds (g.K.Sink.taken c.opening.k)
+    c.args.holds.now (g.K.Sink.taken c.args.k.now) c.opening.scans c.opening.holds
+    (g.K.Sink.taken c.opening.k)
     c.opening.invariant.opened c.requires.group.named t) c.put_last.ensures.whole
 
 pub returns-clause-part : goal.returns-clause-part
 returns-clause-part g c =
     let t = c.in_ok-plan.ensures.none (ap is_some c.in_default.is) in
     on_err_weaker c.put_last.result (last_refused c.args.net.now c.args.tree.now (seen_group c.args.group.now)
-    c.args.holds.now (g.K.Sink.taken c.args.k.now) c.opening.scans c.opening.holds (g.K.Sink.taken c.opening.k)
+    c.args.holds.now (g.K.Sink.taken c.args.k.now) c.opening.scans c.opening.holds
+    (g.K.Sink.taken c.opening.k)
     c.opening.invariant.opened c.requires.group.named t) c.put_last.ensures.part
 
 pub returns-clause-holds : goal.returns-clause-holds
 returns-clause-holds g c =
     let t = c.in_ok-plan.ensures.none (ap is_some c.in_default.is) in
     on_ok_weaker c.put_last.result (all_after c.args.net.now c.args.tree.now (seen_group c.args.group.now)
-    c.args.holds.now (g.K.Sink.taken c.args.k.now) c.opening.scans c.opening.holds (g.K.Sink.taken c.opening.k)
+    c.args.holds.now (g.K.Sink.taken c.args.k.now) c.opening.scans c.opening.holds
+    (g.K.Sink.taken c.opening.k)
     c.opening.invariant.opened c.requires.group.named t) c.put_last.ensures.holds
