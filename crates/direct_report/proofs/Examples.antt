@@ -43,7 +43,7 @@ counter_net =
         name = full (codes "R");
         left = 1;
         right = 0;
-        bits = full [];
+        bits = record { items = [] };
         words = full [];
       } ∷ []);
     }
