@@ -4,10 +4,10 @@ use crate::texts::Shown;
 use mux_test::{MuxTest, TestScan};
 use nest_check::nest;
 use std::alloc::Global;
-use svf_writer::{Command, Part};
+use svf_writer::{Command, ScanPart};
 
 /// The bits of a part, the last position first.
-fn show_bits(shown: &mut Shown, part: &Part) {
+fn show_bits(shown: &mut Shown, part: &ScanPart) {
     shown.text(b" ");
     for k in (0..part.len()).rev() {
         shown.text(if part.get(k) { b"1" } else { b"0" });

@@ -17,11 +17,11 @@ use Rattle.scan_packer.specs.Packing.{CanScan}
 use Rattle.headline.specs.Scans.{holds_after}
 use Rattle.headline.specs.Retargeting.{PlannedGroup, holds_after_rounds, IsPlannedGroup, GroupsArePlanned}
 use Rattle.retargeter.specs.Plans.{ArePlansOf, AreRoundsOf}
-use Rattle.retargeter.specs.Scanning.{CanScanAll}
 use Rattle.retargeter.specs.Writing.{IsAfterGroup}
 use Rattle.retargeter.proofs.Going.{NextRound, at_round}
-use Rattle.retargeter.proofs.Plans.{scannable}
 use Rattle.run_report.specs.Noting.{NotesGroup, ScansGroup, NotesRounds, ScansRounds, HoldsRounds}
+use Rattle.run_report.specs.Scanning.{CanScanAll}
+use Rattle.run_report.proofs.Scanning.{scannable}
 use Rattle.run_report.specs.Places.{scan_places, plans_places, rounds_places, scans_after_rounds}
 use Rattle.run_report.specs.declared.place.ReadPlace.{ReadPlace}
 

@@ -6,4 +6,5 @@ pub mod Planning
 pub mod Going
 pub mod Steps
 pub mod Standing
+pub mod Scanning
 pub mod Noting

@@ -8,3 +8,4 @@ pub mod Noting
 pub mod Procedure
 pub mod Reaching
 pub mod Asking
+pub mod Scanning

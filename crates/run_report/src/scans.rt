@@ -11,11 +11,11 @@ ghost use Rattle.scan_packer.specs.Packing.{CanScan};
 ghost use Rattle.headline.specs.Retargeting.{IsRetargetable};
 ghost use Rattle.headline.specs.Rounds.{IsPlannable, StepIsPlannable};
 ghost use Rattle.headline.specs.Scans.{holds_after};
-ghost use Rattle.retargeter.specs.Scanning.{CanScanAll};
 ghost use Rattle.retargeter.specs.Writing.{IsAfterGroup};
 ghost use Rattle.run_report.specs.Places.{plans_places, scan_places};
 ghost use Rattle.run_report.specs.Noting.{NotesGroup, ScansGroup, NotesRounds, ScansRounds, HoldsRounds};
 ghost use Rattle.run_report.specs.Noting.{NotesStep, ScansStep, HoldsStep};
+ghost use Rattle.run_report.specs.Scanning.{CanScanAll};
 
 use crate::place::{ReadPlace, note_reads};
 use ij_bits::{List, OutOfMemory};

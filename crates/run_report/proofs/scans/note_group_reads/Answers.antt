@@ -4,9 +4,9 @@ use Rattle.net_graph.specs.SeenSteps.{seen_group}
 use Rattle.net_tree.specs.declared.plan.ScanPlan.{ScanPlan}
 use Rattle.net_tree.specs.ScanPlans.{seen_plan}
 use Rattle.path_planner.specs.Plans.{ArePlans}
-use Rattle.retargeter.specs.Scanning.{CanScanAll}
+use Rattle.run_report.specs.Scanning.{CanScanAll}
 use Rattle.retargeter.proofs.Found.{can_open}
-use Rattle.retargeter.proofs.Scanning.{can_scan_all}
+use Rattle.run_report.proofs.Scanning.{can_scan_all}
 use Rattle.run_report.specs.declared.place.ReadPlace.{ReadPlace}
 use Rattle.run_report.proofs.Same.{plans_same}
 use Rattle.run_report.proofs.scans.note_group_reads.Goals as goal
