@@ -52,6 +52,7 @@ def twice(found, least):
 
 # private ones of a crate that nearly all others depend on: shared when that crate changes next
 LATER = {('mux_test', 'no_line_end'), ('mux_test', 'in_names'), ('mux_test', 'name_on_line'), ('path_planner', 'row_from_ge'),
+         ('path_planner', 'then_alike'),
          ('mux_test', 'meet'), ('mux_test', 'is_entry'), ('mux_test', 'row_point_there'), ('mux_test', 'path_bits'), ('mux_test', 'each-length'),
          ('path_planner', 'inner_more'), ('report', 'node_of'), ('report', 'thing_of'), ('net_graph', 'row_source'), ('net_list', 'lines_next'),
          ('net_list', 'lines_done'), ('net_list', 'mux_count'), ('least_clocks', 'is_on'),
