@@ -16,7 +16,7 @@ use crate::copying::{memory_copy, outs_named, port_defs, words_copy};
 use crate::fault::FitsFault;
 use crate::fitting::{has_ports, inst_path, misfit, table_named};
 use crate::moving::rows_moved;
-use ij_bits::{List, OutOfMemory};
+use ij_bits::{Buffer, List, OutOfMemory};
 use instruments::{MemDef, Model, OutDef, PortDef, RowDef, WordDef};
 use net_graph::{Inst, Net};
 use std::alloc::Global;
@@ -129,11 +129,11 @@ fn model_for(alloc: Global, i: u32, inst: &Inst, table: Option<&Table>) -> Resul
 }
 
 /// A list with room for n models.
-fn room_for(alloc: Global, n: usize) -> Result<List<Model>, OutOfMemory>
+fn room_for(alloc: Global, n: usize) -> Result<Buffer<Model>, OutOfMemory>
     ensures items { IfOk result (λ models. models.items ≡ []) }
     ensures room { IfOk result (λ models. n ≤ models.spare) }
 {
-    let mut models = List::new(alloc);
+    let mut models = Buffer::new(alloc);
     models.reserve(n)?;
     Ok(models)
 }
@@ -150,7 +150,7 @@ fn models_from(alloc: Global, net: &Net, tables: &[Table]) -> Result<List<Model>
         let table = table_named(tables, inst_path(net, inst));
         models.push_reserved(model_for(alloc, i as u32, inst, table)?);
     }
-    Ok(models)
+    Ok(models.into_list())
 }
 
 /// The models from tables that fit.

@@ -1,6 +1,5 @@
 // Values.
 ghost use Rattle.std.specs.Prelude.{◌≡◌, ◌<◌, IfOk};
-ghost use Rattle.ij_text.specs.Numbers.{tern_bits};
 ghost use Rattle.icl_declarations.specs.Values.{seen_value};
 
 use ij_bits::{OutOfMemory, Tern};
@@ -18,15 +17,6 @@ pub enum Value {
     Text(Text),
 }
 
-/// The same bits.
-pub(crate) fn copied_bits(alloc: Global, t: &Tern) -> Result<Tern, OutOfMemory>
-    ensures { IfOk result (λ u. tern_bits u ≡ tern_bits t.now) }
-{
-    let value = t.value.slice(alloc, 0, t.value.len())?;
-    let care = t.care.slice(alloc, 0, t.care.len())?;
-    Ok(Tern { value, care })
-}
-
 impl Value {
     /// The same value.
     pub fn copy(&self, alloc: Global) -> Result<Value, OutOfMemory>
@@ -35,7 +25,7 @@ impl Value {
         match self {
             Value::Integer(n) => Ok(Value::Integer(*n)),
             Value::Bits { sized, bits } => {
-                let bits = copied_bits(alloc, bits)?;
+                let bits = bits.copy(alloc)?;
                 Ok(Value::Bits {
                     sized: *sized,
                     bits,

@@ -19,7 +19,7 @@ use icl_declarations::ElabFault;
 use icl_frames::{Stretch, is_data_in_port, is_input, is_scan_in_port, named_in, width};
 use icl_lexer::{Bind, Range, Sig, SmallText, What};
 use icl_references::{Member, Ref, Tables, control_signals, data_signals, scan_signal};
-use ij_bits::{List, OutOfMemory};
+use ij_bits::{Buffer, List, OutOfMemory};
 use ij_text::{Place, name_of};
 use std::alloc::Global;
 use std::marker::Model;
@@ -165,13 +165,13 @@ impl Bindings {
     fn all_refs(&self, alloc: Global, part: u32, wide: u32) -> Result<List<Ref>, OutOfMemory>
         ensures { IfOk result (λ refs. refs.items ≡ map (ref_at self.now part) (range_with_len 0 wide)) }
     {
-        let mut refs = List::new(alloc);
+        let mut refs = Buffer::new(alloc);
         let wide = wide as usize;
         refs.reserve(wide)?;
         for pos in 0..wide {
             refs.push_reserved(self.ref_at(part, pos));
         }
-        Ok(refs)
+        Ok(refs.into_list())
     }
 
     /// Whether a part is bound at all of its bits, or at none.

@@ -38,8 +38,7 @@ impl<T: Drop> Values<T> {
     {
         match self {
             Values::One(first) => {
-                let mut list = List::new(alloc);
-                list.reserve(2)?;
+                let mut list = List::from(Vec::with_capacity(alloc, 2)?);
                 list.push(first)?;
                 Ok(list)
             }

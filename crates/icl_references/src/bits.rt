@@ -9,7 +9,7 @@ ghost use Rattle.icl_references.specs.Signals.{constants};
 
 use crate::hier::Ref;
 use icl_frames::Stretch;
-use ij_bits::{List, OutOfMemory, Tern};
+use ij_bits::{Buffer, List, OutOfMemory, Tern};
 use ij_text::bit_at;
 use std::alloc::Global;
 
@@ -23,7 +23,7 @@ pub(crate) fn bits_between(
 ) -> Result<List<Ref>, OutOfMemory>
     ensures { IfOk result (λ refs. refs.items ≡ map (λ pos. Ref.Bit cell part pos inverted) (positions s)) }
 {
-    let mut refs = List::new(alloc);
+    let mut refs = Buffer::new(alloc);
     let end = u64::from(s.high) + 1;
     let count = end.saturating_sub(u64::from(s.low));
     refs.reserve(count as usize)?;
@@ -35,7 +35,7 @@ pub(crate) fn bits_between(
             inverted,
         });
     }
-    Ok(refs)
+    Ok(refs.into_list())
 }
 
 /// A bit, inverted or not.
@@ -53,17 +53,17 @@ pub(crate) fn constants(
 ) -> Result<List<Ref>, OutOfMemory>
     ensures { IfOk result (λ refs. refs.items ≡ constants inverted (tern_bits bits.now)) }
 {
-    let mut refs = List::new(alloc);
+    let mut refs = Buffer::new(alloc);
     refs.reserve(bits.len() as usize)?;
     for k in 0..bits.len() {
         let bit = bit_at(bits, k).unwrap_or(false);
         refs.push_reserved(Ref::Fixed(flip_if(inverted, bit)));
     }
-    Ok(refs)
+    Ok(refs.into_list())
 }
 
 /// Adds bits at the far end.
-fn append(refs: &mut List<Ref>, more: &List<Ref>) -> Result<(), OutOfMemory>
+fn append(refs: &mut Buffer<Ref>, more: &List<Ref>) -> Result<(), OutOfMemory>
     ensures { OnOk result (refs.new.items ≡ refs.old.items ++ more.now.items) }
 {
     refs.reserve(more.len())?;
@@ -77,10 +77,10 @@ fn append(refs: &mut List<Ref>, more: &List<Ref>) -> Result<(), OutOfMemory>
 pub(crate) fn side_by_side(alloc: Global, parts: &[List<Ref>]) -> Result<List<Ref>, OutOfMemory>
     ensures { IfOk result (λ refs. refs.items ≡ joined (map seen_refs parts.now)) }
 {
-    let mut refs = List::new(alloc);
+    let mut refs = Buffer::new(alloc);
     let n = parts.len();
     for i in 0..n {
         append(&mut refs, &parts[n - 1 - i])?;
     }
-    Ok(refs)
+    Ok(refs.into_list())
 }

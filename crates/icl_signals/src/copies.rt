@@ -6,18 +6,9 @@ ghost use Rattle.icl_references.specs.Roles.{seen_word};
 ghost use Rattle.icl_signals.specs.Connecting.{resets};
 
 use icl_elab::Part;
-use ij_bits::{Bits, List, OutOfMemory, Tern};
+use ij_bits::{BitBox, Bits, List, OutOfMemory, Tern};
 use ij_text::{Name, name_of};
 use std::alloc::Global;
-
-/// The same bits.
-pub(crate) fn bits_copy(alloc: Global, bits: &Tern) -> Result<Tern, OutOfMemory>
-    ensures { IfOk result (λ t. tern_bits t ≡ tern_bits bits.now) }
-{
-    let value = bits.value.slice(alloc, 0, bits.value.len())?;
-    let care = bits.care.slice(alloc, 0, bits.care.len())?;
-    Ok(Tern { value, care })
-}
 
 /// This many bits, all of them open.
 fn all_open(alloc: Global, width: u32) -> Result<Tern, OutOfMemory>
@@ -25,7 +16,10 @@ fn all_open(alloc: Global, width: u32) -> Result<Tern, OutOfMemory>
 {
     let value = Bits::zeros(alloc, width)?;
     let care = Bits::zeros(alloc, width)?;
-    Ok(Tern { value, care })
+    Ok(Tern {
+        value: BitBox::from(value),
+        care: BitBox::from(care),
+    })
 }
 
 /// The reset values of a register: all open where there are none.
@@ -33,7 +27,7 @@ pub(crate) fn resets(alloc: Global, width: u32, reset: &Option<Tern>) -> Result<
     ensures { IfOk result (λ t. tern_bits t ≡ resets width (option_map tern_bits reset.now)) }
 {
     match reset {
-        Some(bits) => bits_copy(alloc, bits),
+        Some(bits) => bits.copy(alloc),
         None => all_open(alloc, width),
     }
 }
@@ -44,7 +38,7 @@ pub(crate) fn values_copy(alloc: Global, values: &[Tern]) -> Result<List<Tern>, 
 {
     let mut all = List::new(alloc);
     for value in values {
-        all.push(bits_copy(alloc, value)?)?;
+        all.push(value.copy(alloc)?)?;
     }
     Ok(all)
 }
@@ -54,7 +48,7 @@ fn word_copy(alloc: Global, word: &(Name, Tern)) -> Result<(Name, Tern), OutOfMe
     ensures { IfOk result (λ w. seen_word w ≡ seen_word word.now) }
 {
     let name = name_of(alloc, word.0.as_slice())?;
-    let value = bits_copy(alloc, &word.1)?;
+    let value = word.1.copy(alloc)?;
     Ok((name, value))
 }
 

@@ -24,6 +24,4 @@ mod network_texts;
 #[cfg(test)]
 mod texts;
 #[cfg(test)]
-mod trimmed_nets;
-#[cfg(test)]
 mod update_stages;

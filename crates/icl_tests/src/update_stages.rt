@@ -6,7 +6,7 @@ ghost use Rattle.net_graph.specs.Nets.{IsNet};
 
 use crate::network_texts::network_of;
 use crate::texts::Shown;
-use ij_bits::{List, OutOfMemory};
+use ij_bits::{Buffer, OutOfMemory};
 use net_graph::{BitId, Holds, Net, path, path_into, row_of};
 use std::alloc::Global;
 use std::test::Fail;
@@ -155,7 +155,7 @@ fn show_path_into(shown: &mut Shown, alloc: Global, net: &Net, holds: &Holds)
     requires well_formed { IsNet net.now }
     requires held { AreHolds net.now holds.now }
 {
-    let mut regs = List::new(alloc);
+    let mut regs = Buffer::new(alloc);
     let Ok(()) = regs.reserve(net.regs.len()) else {
         shown.text(b"no memory;");
         return;

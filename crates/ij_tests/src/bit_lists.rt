@@ -1,7 +1,7 @@
 // Lists of bits, lists of values and rings: the upper and the lower hexadecimal digit of parts.
 ghost use Rattle.std.specs.Prelude.{◌≡◌, length, IfOk};
 
-use ij_bits::{Bits, List, OutOfMemory, Ring};
+use ij_bits::{Bits, Buffer, OutOfMemory, Ring};
 use std::alloc::Global;
 use std::process::Abort;
 
@@ -158,11 +158,14 @@ fn a_ring_made_with_room_takes_the_bits_it_was_made_for(rt: HostRuntime) {
 }
 
 #[test]
-fn a_list_takes_what_it_has_room_for(rt: HostRuntime) {
-    let mut list = List::new(rt.alloc());
-    list.push(7).expect(&rt, "push");
-    list.reserve(2).expect(&rt, "reserve");
-    list.push_reserved(8);
-    list.push_reserved(9);
-    assert!(rt; list.as_slice() == [7, 8, 9].as_slice());
+fn a_buffer_takes_what_it_has_room_for(rt: HostRuntime) {
+    let mut buffer = Buffer::new(rt.alloc());
+    buffer.reserve(3).expect(&rt, "reserve");
+    buffer.push_reserved(8);
+    buffer.push_reserved(9);
+    buffer.set(0, 7);
+    buffer.reverse();
+    let mut list = buffer.into_list();
+    list.push(6).expect(&rt, "push");
+    assert!(rt; list.as_slice() == [9, 7, 6].as_slice());
 }

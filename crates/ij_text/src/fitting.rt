@@ -6,7 +6,7 @@ ghost use Rattle.ij_text.specs.Numbers.{InBits, IsWide, bits_in, seen, tern_bits
 ghost use Rattle.ij_text.specs.declared.number.FitFault.{FitFault};
 
 use crate::number::{FitFault, Number};
-use ij_bits::{Bits, OutOfMemory, Tern};
+use ij_bits::{BitBox, Bits, OutOfMemory, Tern};
 use std::alloc::Global;
 
 /// Whether a decimal has a 1 at the width or above.
@@ -28,7 +28,10 @@ fn decimal_in(alloc: Global, n: u128, width: u32) -> Result<Tern, OutOfMemory>
     }
     let mut care = Bits::zeros(alloc, width)?;
     care.fill(true);
-    Ok(Tern { value, care })
+    Ok(Tern {
+        value: BitBox::from(value),
+        care: BitBox::from(care),
+    })
 }
 
 /// A bit of a number, 0 past its end. Position 0 is the lowest bit.
@@ -61,7 +64,10 @@ fn tern_in(alloc: Global, t: &Tern, width: u32) -> Result<Tern, OutOfMemory>
     above.fill(true);
     let mut care = t.care.slice(alloc, 0, n)?;
     care.append(&above)?;
-    Ok(Tern { value, care })
+    Ok(Tern {
+        value: BitBox::from(value),
+        care: BitBox::from(care),
+    })
 }
 
 /// A number in `width` bits, with zeros added on the left. Position 0 is the lowest bit.

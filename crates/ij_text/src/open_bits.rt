@@ -4,7 +4,7 @@ ghost use Rattle.std.specs.Prelude.{OnOk, OnErr, IfOk};
 ghost use Rattle.ij_bits.specs.BitLists.{bits_of};
 ghost use Rattle.ij_text.specs.Numbers.{open_bits};
 
-use ij_bits::{Bits, OutOfMemory, Tern};
+use ij_bits::{BitBox, Bits, OutOfMemory, Tern};
 use std::alloc::Global;
 use std::marker::Model;
 
@@ -80,6 +80,9 @@ impl OpenBits {
         ensures { open_bits result.value.items result.care.items ≡ self }
     {
         let OpenBits { value, care } = self;
-        Tern { value, care }
+        Tern {
+            value: BitBox::from(value),
+            care: BitBox::from(care),
+        }
     }
 }

@@ -28,7 +28,7 @@ use Rattle.icl_lexer.specs.Values.{SeenModule}
 use Rattle.icl_declarations.specs.Faults.{Fault}
 use Rattle.icl_references.specs.Roles.{CellOf}
 use Rattle.icl_elab.specs.Hierarchy.{hierarchy}
-use Rattle.bench_file.specs.Device.{SeenDevice, device}
+use Rattle.bench_file.specs.Device.{device}
 use Rattle.bench_file.specs.Fits.{fitted}
 use Rattle.bench_file.specs.declared.fault.DeviceFault.{DeviceFault}
 use Rattle.bench_file.specs.declared.fault.FitsFault.{FitsFault}
@@ -37,6 +37,7 @@ use Rattle.table_file.specs.declared.fault.TableFault.{TableFault}
 use Rattle.instruments.specs.Seen.{SeenModel}
 use Rattle.icl_signals.specs.Connecting.{network}
 use Rattle.icl_signals.specs.PlainNets.{NetOf, seen_net}
+use Rattle.icl_signals.proofs.OneNet.{one_net}
 use Rattle.icl_signals.specs.Refusals.{Refusal as ConnectRefusal}
 use Rattle.net_graph.specs.declared.device.Device.{Device}
 use Rattle.net_graph.specs.declared.net.Net.{Net}
@@ -50,8 +51,6 @@ use Rattle.pdl_parser.specs.Laws.{RefusalsAreOne as PdlRefusalsAreOne}
 use Rattle.pdl_parser.specs.Refusals.{AFault}
 use Rattle.pdl_parser.specs.Values.{AProc}
 use Rattle.merge_order.specs.BitSteps.{AFault as StepFault, BitStepsOf, bit_steps}
-use Rattle.trimmed_net.specs.Device.{trimmed_device}
-use Rattle.trimmed_net.specs.Trimmed.{trimmed}
 use Rattle.ijtag_stages.specs.Connected.{connect_refusal, connected}
 use Rattle.ijtag_stages.specs.DeviceText.{device_fault, device_text}
 use Rattle.ijtag_stages.specs.Elaborated.{elab_refusal, elaborated}
@@ -132,7 +131,7 @@ read_not_refused text commands (HexWide at) r read is told = let refused = is.1 
 read_not_refused text commands (TdiMissing at) r read is told = let refused = is.1 in cc
 read_not_refused text commands OutOfMemory r read is told = cc
 
-device_not_refused : (text : List ℕ) (of : SeenDevice) (fault : DeviceFault)
+device_not_refused : (text : List ℕ) (of : Device) (fault : DeviceFault)
     → device text ≡ Ok of → device text ≡ Err fault → ⊥
 device_not_refused text of fault read refused = cc
 
@@ -140,16 +139,12 @@ device_alike : (text : List ℕ) (fault other : DeviceFault) (r s : Refusal) →
     → device text ≡ Err other → device_fault fault ≡ Some r → device_fault other ≡ Some s → r ≡ s
 device_alike text fault other r s a b p q = cc
 
-device_one : (text : List ℕ) (a b : Device) (x y : SeenDevice) → device text ≡ Ok x → device text ≡ Ok y
-    → a ≡ trimmed_device x → b ≡ trimmed_device y → a ≡ b
-device_one text a b x y p q is too = is ∙ ap trimmed_device (ok_is x y (device text) p q) ∙ sym too
-
 device_decided : (text : List ℕ) → IsDecided (device_text text)
 unfolding device_text
 device_decided text =
     record {
-      one = λ a b (x, p, is) (y, q, too). device_one text a b x y p q is too;
-      apart = λ a r (x, p, is) q. device_not_refused text x q.0 p q.1;
+      one = λ a b p q. ok_is a b (device text) p q;
+      apart = λ a r p q. device_not_refused text a q.0 p q.1;
       alike = λ r s p q. device_alike text p.0 q.0 r s p.1 q.1 p.2 q.2;
     }
 
@@ -199,18 +194,13 @@ network_alike : (cells : List CellOf) (link instr : List ℕ) (fault other : Con
     → r ≡ connect_refusal fault → s ≡ connect_refusal other → r ≡ s
 network_alike cells link instr fault other r s a b p q = cc
 
-connected_one : (cells : List CellOf) (link instr : List ℕ) (a b : Net) (x y : NetOf)
-    → network cells link instr ≡ Ok x → network cells link instr ≡ Ok y
-    → a ≡ trimmed x → b ≡ trimmed y → a ≡ b
-connected_one cells link instr a b x y p q is too =
-    is ∙ ap trimmed (ok_is x y (network cells link instr) p q) ∙ sym too
-
 pub connected_decided : (cells : List CellOf) (of : Device) → IsDecided (connected cells of)
 unfolding connected
 connected_decided cells of =
     record {
-      one = λ a b (x, p, is) (y, q, too). connected_one cells of.link.items of.instr.items a b x y p q is too;
-      apart = λ a r (x, p, is) q. network_not_refused cells of.link.items of.instr.items x q.0 p q.1;
+      one = λ a b p q. one_net a b
+          (ok_is (seen_net a) (seen_net b) (network cells of.link.items of.instr.items) p q);
+      apart = λ a r p q. network_not_refused cells of.link.items of.instr.items (seen_net a) q.0 p q.1;
       alike = λ r s p q. network_alike cells of.link.items of.instr.items p.0 q.0 r s p.1 q.1 p.2 q.2;
     }
 

@@ -12,7 +12,7 @@ use Rattle.ij_text.specs.Options.{both}
 use Rattle.ij_text.specs.declared.Place.{Place}
 use Rattle.net_graph.specs.declared.device.Device.{Device}
 use Rattle.net_graph.specs.Devices.{IsDevice, IsIdentity, IsOpcode}
-use Rattle.bench_file.specs.Device.{Link, Said, SeenDevice, and_then, device, device_with, from_head}
+use Rattle.bench_file.specs.Device.{Link, Said, and_then, device, device_with, from_head}
 use Rattle.bench_file.specs.Device.{from_idcode, from_ir, from_link, idcode_line, idcode_words, in_range}
 use Rattle.bench_file.specs.Device.{ir_words, is_head, is_idcode, is_identity, link_line, link_said}
 use Rattle.bench_file.specs.Device.{link_words, needed, nothing_more, opcode_in}
@@ -146,8 +146,8 @@ opcode_ok ir at n = by_test (nat_le (2 ^ ir) n) (n == 2 ^ ir - 1) refl refl
 abbrev IsCode : ℕ → Option (ℕ × ℕ) → Type 0
 IsCode ir idcode = IfSome idcode (λ i. (i.0 < 2 ^ 32) × IsOpcode ir i.1)
 
-abbrev IsSeenDevice : SeenDevice → Type 0
-IsSeenDevice d = (2 ≤ d.ir) × (d.ir ≤ 64) × IsOpcode d.ir d.opcode × IsIdentity d.ir d.opcode d.idcode
+abbrev HasCodes : Device → Type 0
+HasCodes d = (2 ≤ d.ir) × (d.ir ≤ 64) × IsOpcode d.ir d.opcode × IsIdentity d.ir d.opcode d.idcode
 
 identity_is : (ir opcode : ℕ) (idcode : Option (ℕ × ℕ)) → IsCode ir idcode
     → is_identity idcode opcode ≡ false → IsIdentity ir opcode idcode
@@ -156,12 +156,12 @@ identity_is ir opcode (Some i) code e = (code.0, code.1, eqb-false i.1 opcode e)
 
 module _ (ir : ℕ) (range : Range ir) where
   link_ok : (idcode : Option (ℕ × ℕ)) → IsCode ir idcode → (l : Line)
-      → IfOk (link_line ir idcode l) IsSeenDevice
+      → IfOk (link_line ir idcode l) HasCodes
   link_ok idcode code l =
-      then_ok (λ (link : Link). Unit {0}) IsSeenDevice
+      then_ok (λ (link : Link). Unit {0}) HasCodes
       (needed l.at (link_words l.words)) (link_said ir idcode l.at)
       (needed_ok _ l.at (link_words l.words) (any_some (link_words l.words))) (λ link _.
-      then_ok (λ n. (n ≡ link.opcode) × IsOpcode ir link.opcode) IsSeenDevice
+      then_ok (λ n. (n ≡ link.opcode) × IsOpcode ir link.opcode) HasCodes
       (opcode_in ir l.at link.opcode) _ (opcode_ok ir l.at link.opcode)
       (λ n is. by_identity link n is.0 is.1 (is_identity idcode n) refl))
     where
@@ -171,7 +171,7 @@ module _ (ir : ℕ) (range : Range ir) where
 
       by_identity : (link : Link) (n : ℕ) → n ≡ link.opcode
           → IsOpcode ir link.opcode → (b : Bool) → is_identity idcode n ≡ b
-          → IfOk (cond b (Err (OpcodeTwice l.at)) (Ok (device_with ir idcode link))) IsSeenDevice
+          → IfOk (cond b (Err (OpcodeTwice l.at)) (Ok (device_with ir idcode link))) HasCodes
       by_identity link n same is true e = tt
       by_identity link n same is false e = (
         range.0,
@@ -180,14 +180,14 @@ module _ (ir : ℕ) (range : Range ir) where
         identity_is ir link.opcode idcode code (subst (λ (k : ℕ). is_identity idcode k ≡ false) same e),
       )
 
-  more_ok : (d : SeenDevice) → IsSeenDevice d → (ls : List Line) → IfOk (nothing_more d ls) IsSeenDevice
+  more_ok : (d : Device) → HasCodes d → (ls : List Line) → IfOk (nothing_more d ls) HasCodes
   more_ok d is [] = is
   more_ok d is (l ∷ ls) = tt
 
   from_link_ok : (end : Place) (idcode : Option (ℕ × ℕ)) → IsCode ir idcode → (ls : List Line)
-      → IfOk (from_link end ir idcode ls) IsSeenDevice
+      → IfOk (from_link end ir idcode ls) HasCodes
   from_link_ok end idcode code [] = tt
-  from_link_ok end idcode code (l ∷ ls) = then_ok IsSeenDevice IsSeenDevice (link_line ir idcode l) _
+  from_link_ok end idcode code (l ∷ ls) = then_ok HasCodes HasCodes (link_line ir idcode l) _
       (link_ok idcode code l) (λ d is. more_ok d is ls)
 
   idcode_ok : (l : Line) → IfOk (idcode_line ir l) (λ i. (i.0 < 2 ^ 32) × IsOpcode ir i.1)
@@ -197,38 +197,37 @@ module _ (ir : ℕ) (range : Range ir) where
       then_ok (λ n. (n ≡ i.1) × IsOpcode ir i.1) _ (opcode_in ir l.at i.1) _
       (opcode_ok ir l.at i.1) (λ n is. (value, is.1)))
 
-  from_idcode_ok : (end : Place) (ls : List Line) → IfOk (from_idcode end ir ls) IsSeenDevice
+  from_idcode_ok : (end : Place) (ls : List Line) → IfOk (from_idcode end ir ls) HasCodes
   from_idcode_ok end [] = tt
   from_idcode_ok end (l ∷ ls) = by_test (is_idcode l.words)
     where
       by_test : (b : Bool)
           → IfOk (cond b (and_then (idcode_line ir l) (λ idcode. from_link end ir (Some idcode) ls))
-          (from_link end ir None (l ∷ ls))) IsSeenDevice
-      by_test true = then_ok _ IsSeenDevice (idcode_line ir l) _ (idcode_ok l)
+          (from_link end ir None (l ∷ ls))) HasCodes
+      by_test true = then_ok _ HasCodes (idcode_line ir l) _ (idcode_ok l)
           (λ idcode code. from_link_ok end (Some idcode) code ls)
       by_test false = from_link_ok end None tt (l ∷ ls)
 
-from_ir_ok : (end : Place) (ls : List Line) → IfOk (from_ir end ls) IsSeenDevice
+from_ir_ok : (end : Place) (ls : List Line) → IfOk (from_ir end ls) HasCodes
 from_ir_ok end [] = tt
-from_ir_ok end (l ∷ ls) = then_ok Range IsSeenDevice (needed l.at (ir_words l.words)) _
+from_ir_ok end (l ∷ ls) = then_ok Range HasCodes (needed l.at (ir_words l.words)) _
     (needed_ok Range l.at (ir_words l.words) (ir_some l.words)) (λ ir range. from_idcode_ok ir range end ls)
 
-device_ok : (text : List ℕ) → IfOk (device text) IsSeenDevice
+device_ok : (text : List ℕ) → IfOk (device text) HasCodes
 unfolding device
 device_ok text = from_head_ok (end_of text) (lines_of text)
   where
     by_head : (end at : Place) (ls : List Line) (b : Bool)
-        → IfOk (cond b (from_ir end ls) (Err (DevSyntax at))) IsSeenDevice
+        → IfOk (cond b (from_ir end ls) (Err (DevSyntax at))) HasCodes
     by_head end at ls true = from_ir_ok end ls
     by_head end at ls false = tt
 
-    from_head_ok : (end : Place) (ls : List Line) → IfOk (from_head end ls) IsSeenDevice
+    from_head_ok : (end : Place) (ls : List Line) → IfOk (from_head end ls) HasCodes
     from_head_ok end [] = tt
     from_head_ok end (l ∷ ls) = by_head end l.at ls (is_head l.words)
 
 pub device_is_device : (text : List ℕ) (d : Device) → (device_text text).gives d → IsDevice d
 unfolding device_text
 device_is_device text d g =
-    let is = subst (λ (r : Said SeenDevice). IfOk r IsSeenDevice) g.1 (device_ok text) in
-    subst IsDevice (sym g.2)
-    (record { two_bits = is.0; bits_within_limit = is.1; link = is.2; identity = is.3 })
+    let is = subst (λ (r : Said Device). IfOk r HasCodes) g (device_ok text) in
+    record { two_bits = is.0; bits_within_limit = is.1; link = is.2; identity = is.3 }

@@ -3,7 +3,6 @@ pub mod Faults
 pub mod Parts
 pub mod Playable
 pub mod Turns
-pub mod Trimming
 pub mod Steps
 pub mod Deciding
 mod NestedTotals

@@ -2,7 +2,7 @@
 use Rattle.std.specs.Prelude.{Option, None, Result, Ok, Err, IsSome, IfSome}
 use Rattle.std.proofs.Common.{◌≡◌, ◌∙◌, ◌≤◌, ◌-◌, ◌^◌, ◌==◌, nat_lt, nat_le, subst, refl, sym, ap, ℕ, suc}
 use Rattle.std.proofs.Common.{Bool, true, false, cond, Some, List, [], ◌∷◌, inl, inr, length, take, drop}
-use Rattle.bench_file.specs.Device.{Link, Said, SeenDevice, and_then as then_said, device}
+use Rattle.bench_file.specs.Device.{Link, Said, and_then as then_said, device}
 use Rattle.bench_file.specs.Device.{from_head as device_from_head, from_idcode, from_ir, from_link}
 use Rattle.bench_file.specs.Device.{idcode_line, idcode_words, ir_words, is_head, is_idcode, is_identity}
 use Rattle.bench_file.specs.Device.{device_with, link_line, link_said, link_words, needed, nothing_more}
@@ -34,6 +34,7 @@ use Rattle.icl_parser.proofs.Verdicts.{design_found, refused_at as design_refuse
 use Rattle.icl_references.specs.Roles.{CellOf}
 use Rattle.icl_signals.specs.Connecting.{network}
 use Rattle.icl_signals.specs.PlainNets.{NetOf, seen_net}
+use Rattle.icl_signals.proofs.OneNet.{net_of, view_back}
 use Rattle.icl_signals.specs.Refusals.{Refusal as ConnectRefusal}
 use Rattle.icl_signals.proofs.NetsWellFormed.{nets_are_well_formed}
 use Rattle.ij_bits.specs.Room.{full}
@@ -71,9 +72,6 @@ use Rattle.table_file.specs.declared.fault.TableFault.TheVariants.{TableLimit, T
 use Rattle.table_file.specs.declared.fault.TableFault.TheVariants.{TableWidth}
 use Rattle.table_lines.specs.Lines.{Line, end_of as last_line, lines_of}
 use Rattle.table_lines.specs.Said.{SaidLine, instrument, line, version}
-use Rattle.trimmed_net.specs.Device.{trimmed_device}
-use Rattle.trimmed_net.specs.Trimmed.{trimmed}
-use Rattle.trimmed_net.proofs.ViewsKept.{views_are_kept}
 use Rattle.ijtag_stages.specs.Connected.{connect_refusal, connected}
 use Rattle.ijtag_stages.specs.DeviceText.{device_fault, device_text}
 use Rattle.ijtag_stages.specs.Elaborated.{elab_refusal, elaborated}
@@ -179,7 +177,7 @@ link_told ir idcode l =
     by_identity link true = refl
     by_identity link false = tt
 
-more_told : (d : SeenDevice) (ls : List Line) → IsToldSaid (nothing_more d ls)
+more_told : (d : Device) (ls : List Line) → IsToldSaid (nothing_more d ls)
 more_told d [] = tt
 more_told d (l ∷ ls) = refl
 
@@ -218,8 +216,8 @@ device_total : (text : List ℕ) → IsTotal (device_text text)
 unfolding device_text
 device_total text none free = by_reading (device text) refl (device_told text)
   where
-    by_reading : (r : Said SeenDevice) → device text ≡ r → Told device_fault r → ⊥
-    by_reading (Ok of) e told = none (trimmed_device of) (of, e, refl)
+    by_reading : (r : Said Device) → device text ≡ r → Told device_fault r → ⊥
+    by_reading (Ok of) e told = none of e
     by_reading (Err fault) e told = (let r = some_of (device_fault fault) told in free r.0 (fault, e, r.1))
 
 -- ---- the tables' text
@@ -426,7 +424,7 @@ unfolding connected
 connected_total cells d none free = by_network (network cells d.link.items d.instr.items) refl
   where
     by_network : (r : Result NetOf ConnectRefusal) → network cells d.link.items d.instr.items ≡ r → ⊥
-    by_network (Ok of) e = none (trimmed of) (of, e, refl)
+    by_network (Ok of) e = none (net_of of) (e ∙ ap Ok (sym (view_back of)))
     by_network (Err fault) e = free (connect_refusal fault) (fault, e, refl)
 
 -- the hierarchy of modules that are written as ICL's grammar has them is well formed, and so is its network
@@ -438,8 +436,7 @@ hierarchy_well_formed modules top cells written e = hierarchies_are_well_formed 
 network_well_formed : (cells : List CellOf) (d : Device) (net : Net) → IsHierarchy cells
     → (connected cells d).gives net → IsNet net
 unfolding connected
-network_well_formed cells d net h g = nets_are_well_formed cells d.link.items d.instr.items net h
-    (g.1 ∙ ap Ok (sym (ap seen_net g.2 ∙ views_are_kept g.0)))
+network_well_formed cells d net h g = nets_are_well_formed cells d.link.items d.instr.items net h g
 
 modules_are_written : (text : List ℕ) (modules : List SeenModule) → length text ≤ 134217728
     → (icl_text text).gives modules → AreWritten modules

@@ -3,12 +3,11 @@
 use Rattle.std.specs.Prelude.{◌≡◌, List, [], ◌∷◌, Ok, Err, codes}
 use Rattle.icl_references.specs.Roles.{CellOf}
 use Rattle.icl_signals.specs.Connecting.{network}
-use Rattle.icl_signals.specs.PlainNets.{NetOf}
+use Rattle.icl_signals.specs.PlainNets.{seen_net}
 use Rattle.icl_signals.specs.Refusals.{Refusal as Fault, NoLink, Undriven, SignalLoop, BadSelect}
 use Rattle.icl_signals.specs.Refusals.{InstrumentChain}
 use Rattle.net_graph.specs.declared.device.Device.{Device}
 use Rattle.net_graph.specs.declared.net.Net.{Net}
-use Rattle.trimmed_net.specs.Trimmed.{trimmed}
 use Rattle.ijtag_stages.specs.Refusals.{Part, Refusal, Said, refused_at}
 use Rattle.ijtag_stages.specs.declared.refusal.Stage.TheVariants.{Connect}
 
@@ -21,11 +20,10 @@ connect_refusal (SignalLoop at) = refused_at Connect (codes "SignalLoop") at
 connect_refusal (BadSelect at) = refused_at Connect (codes "BadSelect") at
 connect_refusal (InstrumentChain at) = refused_at Connect (codes "InstrumentChain") at
 
--- the network that the device's instruction selects, with lists that have no room to spare
+-- the network that the device's instruction selects
 unfoldable pub connected : List CellOf → Device → Part Net
 connected cells device = record {
-  gives = λ net. (of : NetOf)
-      × (network cells device.link.items device.instr.items ≡ Ok of) × (net ≡ trimmed of);
+  gives = λ net. network cells device.link.items device.instr.items ≡ Ok (seen_net net);
   refuses = λ r. (fault : Fault) × (network cells device.link.items device.instr.items ≡ Err fault)
       × (r ≡ connect_refusal fault);
 }

@@ -1,8 +1,7 @@
 -- The stage of the device's text (IEEE 1149.1-2013; IEEE 1687-2014, ICL: AccessLink).
 use Rattle.std.specs.Prelude.{◌≡◌, ℕ, List, Option, Some, None, Ok, Err, codes}
-use Rattle.bench_file.specs.Device.{SeenDevice, device}
+use Rattle.bench_file.specs.Device.{device}
 use Rattle.net_graph.specs.declared.device.Device.{Device as TheDevice}
-use Rattle.trimmed_net.specs.Device.{trimmed_device}
 use Rattle.bench_file.specs.declared.fault.DeviceFault.{DeviceFault}
 use Rattle.bench_file.specs.declared.fault.DeviceFault.TheVariants.{DevSyntax, OpcodeWide, OpcodeOnes}
 use Rattle.bench_file.specs.declared.fault.DeviceFault.TheVariants.{OpcodeTwice, OutOfMemory}
@@ -17,9 +16,9 @@ device_fault (OpcodeOnes at) = Some (refused_at Device (codes "OpcodeOnes") at)
 device_fault (OpcodeTwice at) = Some (refused_at Device (codes "OpcodeTwice") at)
 device_fault OutOfMemory = None
 
--- what the lines say, as a device whose names have no room to spare
+-- what the lines say
 unfoldable pub device_text : List ℕ → Part TheDevice
 device_text text = record {
-  gives = λ d. (of : SeenDevice) × (device text ≡ Ok of) × (d ≡ trimmed_device of);
+  gives = λ d. device text ≡ Ok d;
   refuses = λ r. (fault : DeviceFault) × (device text ≡ Err fault) × (device_fault fault ≡ Some r);
 }

@@ -1,21 +1,18 @@
 // The network of the hierarchy (IEEE 1687-2014, ICL: AccessLink).
-ghost use Rattle.std.specs.Prelude.{◌≡◌, Ok, IfOk, MatchResult};
+ghost use Rattle.std.specs.Prelude.{IfOk};
 ghost use Rattle.std.specs.Option.{option_map};
 ghost use Rattle.icl_elab.specs.WellFormed.{IsHierarchy};
 ghost use Rattle.net_graph.specs.Nets.{IsNet};
 ghost use Rattle.icl_references.specs.Roles.{seen_hier};
-ghost use Rattle.icl_signals.specs.Connecting.{network};
-ghost use Rattle.icl_signals.specs.PlainNets.{seen_net};
 ghost use Rattle.icl_signals.specs.Refusals.{seen_fault};
 ghost use Rattle.ijtag_stages.specs.Connected.{connected, connect_refusal};
-ghost use Rattle.ijtag_stages.specs.Follows.{Follows, IsFault, IsToldAs};
+ghost use Rattle.ijtag_stages.specs.Follows.{Follows, IsToldAs};
 
 use crate::refusal::{Stage, StageFault, refused_at, refused_names};
 use icl_elab::Hier;
 use icl_signals::{ConnectFault, connect, nets_are_well_formed};
 use net_graph::{Device, Net};
 use std::alloc::Global;
-use trimmed_net::{trim, views_are_kept};
 
 /// How a fault is reported.
 fn told(alloc: Global, fault: ConnectFault) -> StageFault
@@ -37,27 +34,13 @@ fn told(alloc: Global, fault: ConnectFault) -> StageFault
 
 /// The network that the device's instruction selects. Where there is none, the fault says where and why.
 #[tactic(auto, unfolding(crate::specs::Connected::connected))]
-fn connect_ends(alloc: Global, hier: &Hier, device: &Device) -> Result<Net, StageFault>
-    ensures network { MatchResult result
-        (λ net. network (seen_hier hier.now) device.now.link.items device.now.instr.items ≡ Ok (seen_net net))
-        (λ fault. IsFault (connected (seen_hier hier.now) device.now) fault) }
-{
-    match connect(alloc, hier, &device.link, &device.instr) {
-        Ok(net) => Ok(net),
-        Err(fault) => Err(told(alloc, fault)),
-    }
-}
-
-/// The network that the device's instruction selects, with lists that have no room to spare. Where there is
-/// none, the fault says where and why.
-#[tactic(auto, unfolding(crate::specs::Connected::connected))]
 pub fn connect_hierarchy(alloc: Global, hier: &Hier, device: &Device) -> Result<Net, StageFault>
     ensures follows { Follows (connected (seen_hier hier.now) device.now) (λ net. net) result }
     ensures well_formed { IfOk result (λ net. IsHierarchy (seen_hier hier.now) → IsNet net) }
 {
     nets_are_well_formed();
-    views_are_kept();
-    let found = connect_ends(alloc, hier, device)?;
-    let net = trim(alloc, found)?;
-    Ok(net)
+    match connect(alloc, hier, &device.link, &device.instr) {
+        Ok(net) => Ok(net),
+        Err(fault) => Err(told(alloc, fault)),
+    }
 }

@@ -1,15 +1,13 @@
 // The device's text (IEEE 1149.1-2013).
-ghost use Rattle.std.specs.Prelude.{◌≡◌, ◌≤◌, length, Ok, IfOk, MatchResult};
-ghost use Rattle.bench_file.specs.Device.{device, seen_device};
+ghost use Rattle.std.specs.Prelude.{◌≤◌, length, IfOk};
 ghost use Rattle.net_graph.specs.Devices.{IsDevice};
 ghost use Rattle.ijtag_stages.specs.DeviceText.{device_text, device_fault};
-ghost use Rattle.ijtag_stages.specs.Follows.{Follows, IsFault, IsToldAs};
+ghost use Rattle.ijtag_stages.specs.Follows.{Follows, IsToldAs};
 
 use crate::refusal::{Stage, StageFault, refused_at};
 use bench_file::DeviceFault;
 use net_graph::Device;
 use std::alloc::Global;
-use trimmed_net::trim_device;
 
 /// How a fault is reported.
 fn told(alloc: Global, fault: DeviceFault) -> StageFault
@@ -26,27 +24,13 @@ fn told(alloc: Global, fault: DeviceFault) -> StageFault
 
 /// The device of a text. Where a line is at fault, the fault says where and why.
 #[tactic(auto, unfolding(crate::specs::DeviceText::device_text))]
-fn read_lines(alloc: Global, text: &[u8]) -> Result<Device, StageFault>
+pub fn read_device(alloc: Global, text: &[u8]) -> Result<Device, StageFault>
     requires { length text.now ≤ 134217728 }
-    ensures device { MatchResult result (λ d. device text.now ≡ Ok (seen_device d))
-        (λ fault. IsFault (device_text text.now) fault) }
+    ensures follows { Follows (device_text text.now) (λ d. d) result }
     ensures valid { IfOk result IsDevice }
 {
     match bench_file::read_device(alloc, text) {
         Ok(device) => Ok(device),
         Err(fault) => Err(told(alloc, fault)),
     }
-}
-
-/// The device of a text, with names that have no room to spare. Where a line is at fault, the fault says
-/// where and why.
-#[tactic(auto, unfolding(crate::specs::DeviceText::device_text))]
-pub fn read_device(alloc: Global, text: &[u8]) -> Result<Device, StageFault>
-    requires { length text.now ≤ 134217728 }
-    ensures follows { Follows (device_text text.now) (λ d. d) result }
-    ensures valid { IfOk result IsDevice }
-{
-    let device = read_lines(alloc, text)?;
-    let device = trim_device(alloc, &device)?;
-    Ok(device)
 }

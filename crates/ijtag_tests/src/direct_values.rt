@@ -44,7 +44,7 @@ fn do_steps(direct: &mut Direct<'_>, steps: &mut BitSteps<'_>) -> Result<(), Out
 /// How many reads found another value than they expect.
 fn differing(direct: &Direct<'_>) -> usize {
     let mut count = 0usize;
-    for read in direct.reads().as_slice() {
+    for read in direct.reads() {
         if read.0.expect != read.1 {
             count = count.saturating_add(1);
         }

@@ -11,7 +11,7 @@ ghost use Rattle.least_clocks.specs.Inside as inside;
 ghost use Rattle.least_clocks.specs.Least as least;
 
 use crate::work::has_value;
-use ij_bits::{List, OutOfMemory};
+use ij_bits::{Buffer, List, OutOfMemory};
 use net_graph::{Group, Holds, Net, ReadBit, WriteBit, find_path};
 use std::alloc::Global;
 
@@ -22,10 +22,10 @@ fn first_path(alloc: Global, net: &Net) -> Result<List<u32>, OutOfMemory>
     ensures { IfOk result (λ path. path.items ≡ least.first_path net.now) }
 {
     let start = Holds::power_up(alloc, net)?;
-    let mut path = List::new(alloc);
+    let mut path = Buffer::new(alloc);
     path.reserve(net.regs.len())?;
     find_path(net, &start, &mut path);
-    Ok(path)
+    Ok(path.into_list())
 }
 
 /// The bits of the registers of a path.

@@ -15,7 +15,7 @@ ghost use Rattle.merge_order.specs.SeenTurns.{seen_steps};
 use crate::fault::FeedFault;
 use crate::named::Named;
 use crate::turns::merged_by;
-use ij_bits::{List, OutOfMemory};
+use ij_bits::{Buffer, List, OutOfMemory};
 use ij_text::Place;
 use net_graph::{BitStep, Net};
 use net_tree::Tree;
@@ -29,9 +29,9 @@ use std::mem::replace;
 #[derive(Drop)]
 pub(crate) struct Begun {
     /// The bit steps of each branch that has ended.
-    pub branches: List<List<BitStep>>,
+    pub branches: Buffer<List<BitStep>>,
     /// The bit steps of the next branch.
-    pub next: List<BitStep>,
+    pub next: Buffer<BitStep>,
 }
 
 impl Begun {
@@ -40,8 +40,8 @@ impl Begun {
         ensures { seen_begun result ≡ record { branches = []; next = [] } }
     {
         Begun {
-            branches: List::new(alloc),
-            next: List::new(alloc),
+            branches: Buffer::new(alloc),
+            next: Buffer::new(alloc),
         }
     }
 
@@ -51,8 +51,8 @@ impl Begun {
         ensures err { OnErr result (seen_begun self.new ≡ seen_begun self.old) }
     {
         self.branches.reserve(1)?;
-        let branch = replace(&mut self.next, List::new(alloc));
-        self.branches.push_reserved(branch);
+        let branch = replace(&mut self.next, Buffer::new(alloc));
+        self.branches.push_reserved(branch.into_list());
         Ok(())
     }
 

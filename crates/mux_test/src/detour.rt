@@ -12,7 +12,7 @@ ghost use Rattle.mux_test.specs.KnownRows.{AreKnown};
 
 use crate::known::KnownRows;
 use crate::stuck::{back, meet};
-use ij_bits::{List, OutOfMemory};
+use ij_bits::{Buffer, OutOfMemory};
 use net_graph::{Branch, Holds, Net, Point};
 use net_tree::{Tree, same_point};
 use std::alloc::Global;
@@ -23,18 +23,18 @@ pub(crate) struct Detour {
     /// The mux that the active path is traced from, if any.
     pub from: Option<u32>,
     /// The registers of the active path from there on, nearest scan-out first.
-    pub own: List<u32>,
+    pub own: Buffer<u32>,
     /// Where the active path goes on after them.
     pub ahead: Point,
     /// The registers of the path on which the mux is stuck.
-    pub other: List<u32>,
+    pub other: Buffer<u32>,
 }
 
 /// No registers, and room for those of a network.
-fn path_room(alloc: Global, net: &Net) -> Result<List<u32>, OutOfMemory>
+fn path_room(alloc: Global, net: &Net) -> Result<Buffer<u32>, OutOfMemory>
     ensures { IfOk result (λ path. length net.now.regs.items ≤ length path.items + path.spare) }
 {
-    let mut path = List::new(alloc);
+    let mut path = Buffer::new(alloc);
     path.reserve(net.regs.len())?;
     Ok(path)
 }

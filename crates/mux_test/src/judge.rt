@@ -25,7 +25,7 @@ use crate::detour::Detour;
 use crate::known::KnownRows;
 use crate::planned::PlannedScan;
 use crate::stuck::{find_path, is_passed};
-use ij_bits::{List, OutOfMemory};
+use ij_bits::{Buffer, List, OutOfMemory};
 use net_graph::{Branch, Holds, Net};
 use net_tree::Tree;
 use path_planner::advance;
@@ -320,7 +320,7 @@ fn judge_scans(
 fn open_rows(alloc: Global, branches: &[Branch]) -> Result<List<RowVerdict>, OutOfMemory>
     ensures { IfOk result (λ rows. rows.items ≡ map judged.open_row branches.now) }
 {
-    let mut rows = List::new(alloc);
+    let mut rows = Buffer::new(alloc);
     rows.reserve(branches.len())?;
     for branch in branches {
         rows.push_reserved(RowVerdict {
@@ -328,7 +328,7 @@ fn open_rows(alloc: Global, branches: &[Branch]) -> Result<List<RowVerdict>, Out
             verdict: Verdict::Open,
         });
     }
-    Ok(rows)
+    Ok(rows.into_list())
 }
 
 /// The rows that no scan has told, in their order.

@@ -5,7 +5,7 @@ ghost use Rattle.net_graph.specs.Nets.{IsNet};
 ghost use Rattle.net_graph.specs.Path as paths;
 ghost use Rattle.mux_test.specs.KnownRows.{AreKnown, HasKnownRoom};
 
-use ij_bits::{List, OutOfMemory};
+use ij_bits::{Buffer, List, OutOfMemory};
 use net_graph::{Holds, Net, RowTable};
 use std::alloc::Global;
 
@@ -23,12 +23,12 @@ pub(crate) struct KnownRows {
 fn rows_room(alloc: Global, net: &Net) -> Result<List<Option<u32>>, OutOfMemory>
     ensures { IfOk result (λ rows. length rows.items ≡ length net.now.muxes.items) }
 {
-    let mut rows = List::new(alloc);
+    let mut rows = Buffer::new(alloc);
     rows.reserve(net.muxes.len())?;
     for _mux in 0..net.muxes.len() {
         rows.push_reserved(None);
     }
-    Ok(rows)
+    Ok(rows.into_list())
 }
 
 impl KnownRows {

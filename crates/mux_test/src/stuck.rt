@@ -12,7 +12,7 @@ ghost use Rattle.mux_test.specs.Steps as steps;
 ghost use Rattle.mux_test.specs.KnownRows.{AreKnown};
 
 use crate::known::KnownRows;
-use ij_bits::List;
+use ij_bits::Buffer;
 use net_graph::{Branch, Holds, Net, Point};
 use net_tree::same_point;
 
@@ -86,7 +86,7 @@ pub(crate) fn back(
 }
 
 /// Adds the register that a point is, and answers whether there was room for it among this many.
-pub(crate) fn meet(at: Point, count: usize, into: &mut List<u32>) -> bool
+pub(crate) fn meet(at: Point, count: usize, into: &mut Buffer<u32>) -> bool
     requires few { length into.old.items ≤ count }
     requires room { count ≤ length into.old.items + into.old.spare }
     ensures room { length into.new.items + into.new.spare ≡ length into.old.items + into.old.spare }
@@ -118,7 +118,7 @@ pub(crate) fn find_path(
     stuck: Option<Branch>,
     holds: &Holds,
     known: &KnownRows,
-    path: &mut List<u32>,
+    path: &mut Buffer<u32>,
 )
     requires well_formed { IsNet net.now }
     requires known { AreKnown net.now holds.now known.now }

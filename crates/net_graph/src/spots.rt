@@ -1,11 +1,11 @@
 // The bits of a named thing.
 ghost use Rattle.std.specs.Prelude.{◌≡◌, ◌+◌, ◌-◌, ◌^◌, ◌<◌, ◌≤◌, [], ◌∷◌, ◌++◌, length, replicate, take};
-ghost use Rattle.std.specs.Prelude.{drop, get_or, slice_index_or, IsTrue, IfOk, OnOk, OnErr};
+ghost use Rattle.std.specs.Prelude.{drop, get_or, slice_index_or, IsTrue, OnOk, OnErr};
 ghost use Rattle.net_graph.specs.declared.net.Spot.{Spot as ASpot};
 ghost use Rattle.net_graph.specs.Spotted.{spotted};
 
 use crate::net::{Sig, Spot};
-use ij_bits::{List, OutOfMemory};
+use ij_bits::{Buffer, List, OutOfMemory};
 use std::alloc::Global;
 use std::marker::Model;
 
@@ -16,7 +16,7 @@ use std::marker::Model;
 #[derive(Drop)]
 pub struct Spots {
     /// The first bits.
-    first: List<Spot>,
+    first: Buffer<Spot>,
     /// What each bit after them is.
     last: Spot,
     /// How many bits there are.
@@ -46,7 +46,7 @@ fn are_both_absent(a: Spot, b: Spot) -> bool
 }
 
 /// Adds one bit this many times. After a refusal the list is as it was.
-fn push_same(first: &mut List<Spot>, spot: Spot, count: u32) -> Result<(), OutOfMemory>
+fn push_same(first: &mut Buffer<Spot>, spot: Spot, count: u32) -> Result<(), OutOfMemory>
     ensures ok { OnOk result (first.new.items ≡ first.old.items ++ replicate count spot) }
     ensures err { OnErr result (first.new.items ≡ first.old.items) }
 {
@@ -63,7 +63,7 @@ impl Spots {
         ensures { result.items ≡ [] }
     {
         Spots {
-            first: List::new(alloc),
+            first: Buffer::new(alloc),
             last: Spot::Outward(Sig::Absent),
             len: 0,
         }
@@ -103,23 +103,6 @@ impl Spots {
         } else {
             self.last
         }
-    }
-
-    /// The same bits, in as much memory as they take.
-    pub fn trimmed(self, alloc: Global) -> Result<Spots, OutOfMemory>
-        ensures { IfOk result (λ s. s.items ≡ self.items) }
-    {
-        let Spots { first, last, len } = self;
-        let mut copy = List::new(alloc);
-        copy.reserve(first.len())?;
-        for spot in first.as_slice() {
-            copy.push(*spot)?;
-        }
-        Ok(Spots {
-            first: copy,
-            last,
-            len,
-        })
     }
 
     /// All bits. Takes no memory.

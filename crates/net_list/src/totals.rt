@@ -9,7 +9,7 @@ ghost use Rattle.net_list.specs.Listing as listing;
 use crate::format::{ListFormat, put_count, put_either};
 use crate::instrument::inst_count;
 use crate::mux::mux_count;
-use ij_bits::{List, OutOfMemory};
+use ij_bits::{Buffer, OutOfMemory};
 use ij_io::{Sink, StoreFault};
 use net_graph::{Holds, Net, find_path, register_count};
 use std::alloc::Global;
@@ -46,7 +46,7 @@ fn start_path_bits(alloc: Global, net: &Net) -> Result<u32, OutOfMemory>
     ensures { IfOk result (λ bits. bits ≡ listing.start_path_bits net.now) }
 {
     let start = Holds::power_up(alloc, net)?;
-    let mut path = List::new(alloc);
+    let mut path = Buffer::new(alloc);
     path.reserve(net.regs.len())?;
     find_path(net, &start, &mut path);
     Ok(path_bits(&start, path.as_slice()))

@@ -158,7 +158,7 @@ impl<'s, 'a> Scene<'s, 'a> {
             Var::Bit => add_number(u64::from(self.pins.bit), 16, into),
             Var::Update(reg) => add_bits(self.bench.holds().register(reg), into),
             Var::Shift(reg) => add_bits(self.stages.register(reg), into),
-            Var::OnPath(reg) => add_digit(is_in(self.bench.path().as_slice(), reg), into),
+            Var::OnPath(reg) => add_digit(is_in(self.bench.path(), reg), into),
             Var::Row(mux) => self.add_mux_row(mux, into),
             Var::Input(inst, port) => self.add_input(inst, port, into),
             Var::Output(inst, port) => self.add_output(inst, port, into),

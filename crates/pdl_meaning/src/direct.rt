@@ -13,7 +13,7 @@ ghost use Rattle.pdl_meaning.specs.States.{with_reads, reads_of};
 ghost use Rattle.instruments.specs.Runners.{machines_of, AreModels};
 
 use crate::state::DataState;
-use ij_bits::{List, OutOfMemory};
+use ij_bits::{Buffer, List, OutOfMemory};
 use instruments::{Counts, Model};
 use net_graph::{BitId, BitStep, Group, Net, ReadBit};
 use std::alloc::Global;
@@ -28,7 +28,7 @@ use std::alloc::Global;
 #[derive(Drop)]
 pub struct Direct<'a> {
     values: DataState<'a>,
-    reads: List<(ReadBit, bool)>,
+    reads: Buffer<(ReadBit, bool)>,
 }
 
 impl<'a> std::marker::Model for Direct<'a> {
@@ -55,7 +55,7 @@ fn reads_in(rounds: &[Group]) -> Option<usize>
 }
 
 /// Reads register bits, into room that is there.
-fn read_all(values: &DataState, reads: &[ReadBit], into: &mut List<(ReadBit, bool)>)
+fn read_all(values: &DataState, reads: &[ReadBit], into: &mut Buffer<(ReadBit, bool)>)
     requires there { All (λ r. IsBitOf values.now.net r.bit) reads.now }
     requires room { length reads.now ≤ into.old.spare }
     ensures items { into.new.items ≡ into.old.items ++ map (found count_log values.now.net
@@ -68,7 +68,7 @@ fn read_all(values: &DataState, reads: &[ReadBit], into: &mut List<(ReadBit, boo
 }
 
 /// Does one round: all its reads, then all its writes at once, then the instruments' changes.
-fn do_round(values: &mut DataState, reads: &mut List<(ReadBit, bool)>, group: &Group)
+fn do_round(values: &mut DataState, reads: &mut Buffer<(ReadBit, bool)>, group: &Group)
     requires group { IsGroup values.old.net (seen_group group.now) }
     requires room { length group.now.reads.items ≤ reads.old.spare }
     ensures net { values.new.net ≡ values.old.net }
@@ -82,7 +82,7 @@ fn do_round(values: &mut DataState, reads: &mut List<(ReadBit, bool)>, group: &G
 }
 
 /// Does the rounds of an iApply, one after the other.
-fn do_all_rounds(values: &mut DataState, reads: &mut List<(ReadBit, bool)>, rounds: &[Group])
+fn do_all_rounds(values: &mut DataState, reads: &mut Buffer<(ReadBit, bool)>, rounds: &[Group])
     requires groups { All (IsGroup values.old.net) (map seen_group rounds.now) }
     requires room { reads_of (map seen_group rounds.now) ≤ reads.old.spare }
     ensures net { values.new.net ≡ values.old.net }
@@ -115,7 +115,7 @@ impl<'a> Direct<'a> {
     {
         Ok(Direct {
             values: DataState::power_up(alloc, net, models)?,
-            reads: List::new(alloc),
+            reads: Buffer::new(alloc),
         })
     }
 
@@ -203,9 +203,9 @@ impl<'a> Direct<'a> {
     }
 
     /// Each bit that was read, in the order of the steps, with the value found. It takes no memory.
-    pub fn reads(&self) -> &List<(ReadBit, bool)>
-        ensures { result.now.items ≡ self.now.state.reads }
+    pub fn reads(&self) -> &[(ReadBit, bool)]
+        ensures { result.now ≡ self.now.state.reads }
     {
-        &self.reads
+        self.reads.as_slice()
     }
 }

@@ -17,7 +17,7 @@ use crate::fault::TargetFault;
 use crate::groups::groups;
 use crate::queue::{mention_read, mention_written, put_reads, put_writes};
 use crate::rows::RowSets;
-use ij_bits::{List, OutOfMemory};
+use ij_bits::{Buffer, List, OutOfMemory};
 use ij_text::{Number, Place, Which};
 use net_graph::{BitMarks, BitStep, Group, Net, ReadBit, WriteBit, marks_law};
 use net_tree::Tree;
@@ -28,11 +28,11 @@ use std::alloc::Global;
 #[derive(Drop)]
 pub(crate) struct Gathered {
     /// The writes, each bit once.
-    pub writes: List<WriteBit>,
+    pub writes: Buffer<WriteBit>,
     /// The reads, each bit once.
-    pub reads: List<ReadBit>,
+    pub reads: Buffer<ReadBit>,
     /// The registers of both, in the order of their first mention.
-    pub registers: List<u32>,
+    pub registers: Buffer<u32>,
     /// Where the write of a bit is.
     pub write_marks: BitMarks,
     /// Where the read of a bit is.
@@ -84,7 +84,7 @@ fn first_of(first: Option<Place>, at: Place) -> Option<Place>
 }
 
 /// Makes room for this many more; fewer than 2^32 are there then.
-fn room_for<T>(list: &mut List<T>, more: usize) -> Result<(), OutOfMemory>
+fn room_for<T>(list: &mut Buffer<T>, more: usize) -> Result<(), OutOfMemory>
     ensures items { list.new.items ≡ list.old.items }
     ensures room { OnOk result (more ≤ list.new.spare) }
     ensures few { OnOk result (length list.old.items + more < 2 ^ 32) }
@@ -103,9 +103,9 @@ impl Gathered {
     {
         marks_law();
         Ok(Gathered {
-            writes: List::new(alloc),
-            reads: List::new(alloc),
-            registers: List::new(alloc),
+            writes: Buffer::new(alloc),
+            reads: Buffer::new(alloc),
+            registers: Buffer::new(alloc),
             write_marks: BitMarks::zeros(alloc, net)?,
             read_marks: BitMarks::zeros(alloc, net)?,
             register_marks: BitMarks::zeros(alloc, net)?,

@@ -5,11 +5,11 @@ ghost use Rattle.net_graph.specs.Path.{is_in};
 ghost use Rattle.pdl_targets.specs.Marked.{AreNumbered, bits_compared, bits_written, first_bits};
 ghost use Rattle.pdl_targets.specs.Rounds.{mention, put_read, put_reads, put_write, put_writes};
 
-use ij_bits::List;
+use ij_bits::Buffer;
 use net_graph::{BitId, BitMarks, Net, ReadBit, WriteBit, is_in, mark_next, read_at, written_at};
 
 /// Puts a write into a queue with room for it: in place of one of the same bit, or at the end.
-fn put_write(net: &Net, marks: &mut BitMarks, writes: &mut List<WriteBit>, write: WriteBit)
+fn put_write(net: &Net, marks: &mut BitMarks, writes: &mut Buffer<WriteBit>, write: WriteBit)
     requires room { 1 ≤ writes.old.spare }
     requires few { length writes.old.items + 1 < 2 ^ 32 }
     requires numbered { AreNumbered net.now marks.old (bits_written writes.old.items) }
@@ -32,7 +32,7 @@ fn put_write(net: &Net, marks: &mut BitMarks, writes: &mut List<WriteBit>, write
 pub(crate) fn put_writes(
     net: &Net,
     marks: &mut BitMarks,
-    writes: &mut List<WriteBit>,
+    writes: &mut Buffer<WriteBit>,
     more: &[WriteBit],
 )
     requires room { length more.now ≤ writes.old.spare }
@@ -48,7 +48,7 @@ pub(crate) fn put_writes(
 }
 
 /// Puts a read into a queue with room for it: in place of one of the same bit, or at the end.
-fn put_read(net: &Net, marks: &mut BitMarks, reads: &mut List<ReadBit>, read: ReadBit)
+fn put_read(net: &Net, marks: &mut BitMarks, reads: &mut Buffer<ReadBit>, read: ReadBit)
     requires room { 1 ≤ reads.old.spare }
     requires few { length reads.old.items + 1 < 2 ^ 32 }
     requires numbered { AreNumbered net.now marks.old (bits_compared reads.old.items) }
@@ -71,7 +71,7 @@ fn put_read(net: &Net, marks: &mut BitMarks, reads: &mut List<ReadBit>, read: Re
 pub(crate) fn put_reads(
     net: &Net,
     marks: &mut BitMarks,
-    reads: &mut List<ReadBit>,
+    reads: &mut Buffer<ReadBit>,
     more: &[ReadBit],
 )
     requires room { length more.now ≤ reads.old.spare }
@@ -87,7 +87,7 @@ pub(crate) fn put_reads(
 }
 
 /// Mentions the register of a bit; there is room for it.
-fn mention_one(net: &Net, marks: &mut BitMarks, registers: &mut List<u32>, bit: BitId)
+fn mention_one(net: &Net, marks: &mut BitMarks, registers: &mut Buffer<u32>, bit: BitId)
     requires room { 1 ≤ registers.old.spare }
     requires few { length registers.old.items + 1 < 2 ^ 32 }
     requires numbered { AreNumbered net.now marks.old (first_bits registers.old.items) }
@@ -112,7 +112,7 @@ fn mention_one(net: &Net, marks: &mut BitMarks, registers: &mut List<u32>, bit: 
 pub(crate) fn mention_written(
     net: &Net,
     marks: &mut BitMarks,
-    registers: &mut List<u32>,
+    registers: &mut Buffer<u32>,
     writes: &[WriteBit],
 )
     requires room { length writes.now ≤ registers.old.spare }
@@ -131,7 +131,7 @@ pub(crate) fn mention_written(
 pub(crate) fn mention_read(
     net: &Net,
     marks: &mut BitMarks,
-    registers: &mut List<u32>,
+    registers: &mut Buffer<u32>,
     reads: &[ReadBit],
 )
     requires room { length reads.now ≤ registers.old.spare }

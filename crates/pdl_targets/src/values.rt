@@ -37,9 +37,7 @@ pub(crate) fn value_at(values: &Tern, i: u32) -> Option<bool>
 fn copied(alloc: Global, t: &Tern) -> Result<Number, OutOfMemory>
     ensures { IfOk result (λ n. seen n ≡ InBits (tern_bits t.now)) }
 {
-    let value = t.value.slice(alloc, 0, t.value.len())?;
-    let care = t.care.slice(alloc, 0, t.care.len())?;
-    Ok(Number::Digits(Tern { value, care }))
+    Ok(Number::Digits(t.copy(alloc)?))
 }
 
 /// The bits of a number in a width.

@@ -17,7 +17,7 @@ ghost use Rattle.svf_audit.specs.Registers.{AreStill, IsTurned};
 
 use crate::last_parts::{LastParts, tdi_at, tdi_number};
 use crate::scan::{have_rows, some_select};
-use ij_bits::{Bits, List, OutOfMemory};
+use ij_bits::{Bits, Buffer, List, OutOfMemory};
 use net_graph::{BitId, BitMarks, Holds, Net, find_path, selects_of};
 use std::alloc::Global;
 use std::mem::swap;
@@ -34,9 +34,9 @@ pub(crate) struct Registers<'a> {
     /// A mark at each bit that selects.
     pub selects: BitMarks,
     pub holds: Holds,
-    pub path: List<u32>,
+    pub path: Buffer<u32>,
     /// Room for the next path.
-    pub next: List<u32>,
+    pub next: Buffer<u32>,
     pub bits: Vec<BitId>,
     pub chain: Bits,
     /// Whether these three are those of the active path.
@@ -44,7 +44,7 @@ pub(crate) struct Registers<'a> {
     /// Whether it is known that each mux has a row for its select value.
     pub listed: bool,
     pub after: Holds,
-    pub moved: List<BitId>,
+    pub moved: Buffer<BitId>,
 }
 
 /// Adds the bits of a register.
@@ -120,20 +120,20 @@ fn put_bits(bits: &[BitId], from: &Holds, into: &mut Holds)
 }
 
 /// An empty path, with room for this many registers.
-fn room_for_path(alloc: Global, n: usize) -> Result<List<u32>, OutOfMemory>
+fn room_for_path(alloc: Global, n: usize) -> Result<Buffer<u32>, OutOfMemory>
     ensures room { IfOk result (λ path. n ≤ length path.items + path.spare) }
     ensures empty { IfOk result (λ path. path.items ≡ []) }
 {
-    let mut path = List::new(alloc);
+    let mut path = Buffer::new(alloc);
     path.reserve(n)?;
     Ok(path)
 }
 
 /// No bits, and room for those of every path.
-fn room_for_bits(alloc: Global) -> Result<List<BitId>, OutOfMemory>
+fn room_for_bits(alloc: Global) -> Result<Buffer<BitId>, OutOfMemory>
     ensures { IfOk result (λ bits. 4096 ≤ length bits.items + bits.spare) }
 {
-    let mut bits = List::new(alloc);
+    let mut bits = Buffer::new(alloc);
     bits.reserve(MOST_BITS as usize)?;
     Ok(bits)
 }
@@ -164,11 +164,11 @@ fn power_up(alloc: Global, net: &Net) -> Result<TwoHolds, OutOfMemory>
 /// Room for two paths, and for the bits of every path.
 #[derive(Drop)]
 struct Rooms {
-    path: List<u32>,
-    next: List<u32>,
+    path: Buffer<u32>,
+    next: Buffer<u32>,
     bits: Vec<BitId>,
     chain: Bits,
-    moved: List<BitId>,
+    moved: Buffer<BitId>,
 }
 
 /// Room for two paths of this many registers, and for the bits of every path.

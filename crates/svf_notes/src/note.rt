@@ -54,7 +54,7 @@ pub(crate) fn path_len(net: &Net, bench: &Bench) -> u32
     ensures { result ≡ notes.path_length net.now bench.now.state.holds }
 {
     let _ = net;
-    route_len(bench.holds(), bench.path().as_slice())
+    route_len(bench.holds(), bench.path())
 }
 
 /// Writes the length of the path that a scan goes through.
@@ -88,7 +88,7 @@ fn put_path(
         return put_other_length(b"path ", count, len, note);
     }
     put_path_len(len, note)?;
-    put_rows(heads, bench.holds(), bench.path().as_slice(), bits, note)?;
+    put_rows(heads, bench.holds(), bench.path(), bits, note)?;
     Ok(())
 }
 

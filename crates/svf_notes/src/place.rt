@@ -111,7 +111,7 @@ fn put_on_path(
     if len != path_len(net, bench) {
         return line.write(b" no register");
     }
-    match path_bit_at(bench.holds(), bench.path().as_slice(), at) {
+    match path_bit_at(bench.holds(), bench.path(), at) {
         None => line.write(b""),
         Some(bit) => put_register_bit(net, bit, line),
     }

@@ -38,7 +38,7 @@ pub(crate) fn power_up(alloc: Global, net: &Net) -> Result<Vec<Bits>, PlanStop> 
     let mut holds = Vec::new(alloc);
     for reg in net.regs.as_slice() {
         let mut bits = Bits::zeros(alloc, reg.width)?;
-        bits.put_masked(&reg.reset.value, &reg.reset.care);
+        bits.put_masked(reg.reset.value.bits(), reg.reset.care.bits());
         holds.push(bits)?;
     }
     Ok(holds)
@@ -48,7 +48,7 @@ pub(crate) fn power_up(alloc: Global, net: &Net) -> Result<Vec<Bits>, PlanStop> 
 pub(crate) fn reset(net: &Net, holds: &mut [Bits]) -> Result<(), PlanStop> {
     for r in 0..holds.len() {
         let reg = at(net.regs.as_slice(), r)?;
-        holds[r].put_masked(&reg.reset.value, &reg.reset.care);
+        holds[r].put_masked(reg.reset.value.bits(), reg.reset.care.bits());
     }
     Ok(())
 }

@@ -1,5 +1,5 @@
 use Rattle.std.proofs.Common.{ℕ, false, length, ap, ◌∙◌}
-use Rattle.ij_bits.specs.Room.{Listed}
+use Rattle.ij_bits.specs.Room.{Roomy}
 use Rattle.std.specs.Prelude.{replicate}
 use Rattle.net_graph.specs.declared.net.Point.TheVariants.{Reg as FromReg}
 use Rattle.net_graph.specs.SeenSteps.{seen_group}
@@ -28,8 +28,8 @@ advance-requires c =
     let s = opening_plan net form group c.opening.now c.opening.route.items c.as_slice.result.now
     c.as_slice-path.result.now c.args.regs.now c.args.regs.now c.args.rows.now c.all_on.result
     (seen_plan c.in_ok-plan.plan) c.opening.invariant.can c.opening.invariant.path
-    (c.as_slice.ensures ∙ ap (λ (l : Listed ℕ). l.items) c.regs.ensures)
-    (c.as_slice-path.ensures ∙ ap (λ (l : Listed ℕ). l.items) c.regs-in-opening.ensures) c.requires.regs
+    (c.as_slice.ensures ∙ ap (λ (l : Roomy ℕ). l.items) c.regs.ensures)
+    (c.as_slice-path.ensures ∙ ap (λ (l : Roomy ℕ). l.items) c.regs-in-opening.ensures) c.requires.regs
     c.requires.regs c.all_on.ensures c.opening-test.true c.requires.rows
     c.in_ok-plan.ensures.writes c.in_ok-plan.ensures.reads in
     plan_held net form group c.opening.now (seen_plan c.in_ok-plan.plan) c.opening.invariant.can s
@@ -42,8 +42,8 @@ walk-requires-clause-holds c =
     let s = opening_plan net form group c.opening.now c.opening.route.items c.as_slice.result.now
     c.as_slice-path.result.now c.args.regs.now c.args.regs.now c.args.rows.now c.all_on.result
     (seen_plan c.in_ok-plan.plan) c.opening.invariant.can c.opening.invariant.path
-    (c.as_slice.ensures ∙ ap (λ (l : Listed ℕ). l.items) c.regs.ensures)
-    (c.as_slice-path.ensures ∙ ap (λ (l : Listed ℕ). l.items) c.regs-in-opening.ensures) c.requires.regs
+    (c.as_slice.ensures ∙ ap (λ (l : Roomy ℕ). l.items) c.regs.ensures)
+    (c.as_slice-path.ensures ∙ ap (λ (l : Roomy ℕ). l.items) c.regs-in-opening.ensures) c.requires.regs
     c.requires.regs c.all_on.ensures c.opening-test.true c.requires.rows
     c.in_ok-plan.ensures.writes c.in_ok-plan.ensures.reads in
     (after_can net form group c.args.now.now c.opening.now c.advance.new.holds c.opening.plans.items
@@ -58,8 +58,8 @@ walk-requires-clause-listed c =
     let s = opening_plan net form group c.opening.now c.opening.route.items c.as_slice.result.now
     c.as_slice-path.result.now c.args.regs.now c.args.regs.now c.args.rows.now c.all_on.result
     (seen_plan c.in_ok-plan.plan) c.opening.invariant.can c.opening.invariant.path
-    (c.as_slice.ensures ∙ ap (λ (l : Listed ℕ). l.items) c.regs.ensures)
-    (c.as_slice-path.ensures ∙ ap (λ (l : Listed ℕ). l.items) c.regs-in-opening.ensures) c.requires.regs
+    (c.as_slice.ensures ∙ ap (λ (l : Roomy ℕ). l.items) c.regs.ensures)
+    (c.as_slice-path.ensures ∙ ap (λ (l : Roomy ℕ). l.items) c.regs-in-opening.ensures) c.requires.regs
     c.requires.regs c.all_on.ensures c.opening-test.true c.requires.rows
     c.in_ok-plan.ensures.writes c.in_ok-plan.ensures.reads in
     (after_can net form group c.args.now.now c.opening.now c.advance.new.holds c.opening.plans.items
@@ -74,8 +74,8 @@ opening-smaller c =
     let s = opening_plan net form group c.opening.now c.opening.route.items c.as_slice.result.now
     c.as_slice-path.result.now c.args.regs.now c.args.regs.now c.args.rows.now c.all_on.result
     (seen_plan c.in_ok-plan.plan) c.opening.invariant.can c.opening.invariant.path
-    (c.as_slice.ensures ∙ ap (λ (l : Listed ℕ). l.items) c.regs.ensures)
-    (c.as_slice-path.ensures ∙ ap (λ (l : Listed ℕ). l.items) c.regs-in-opening.ensures) c.requires.regs
+    (c.as_slice.ensures ∙ ap (λ (l : Roomy ℕ). l.items) c.regs.ensures)
+    (c.as_slice-path.ensures ∙ ap (λ (l : Roomy ℕ). l.items) c.regs-in-opening.ensures) c.requires.regs
     c.requires.regs c.all_on.ensures c.opening-test.true c.requires.rows
     c.in_ok-plan.ensures.writes c.in_ok-plan.ensures.reads in
     fewer_left net form group c.args.now.now c.opening.now c.advance.new.holds c.opening.plans.items
@@ -90,8 +90,8 @@ opening-preserved c =
     let s = opening_plan net form group c.opening.now c.opening.route.items c.as_slice.result.now
     c.as_slice-path.result.now c.args.regs.now c.args.regs.now c.args.rows.now c.all_on.result
     (seen_plan c.in_ok-plan.plan) c.opening.invariant.can c.opening.invariant.path
-    (c.as_slice.ensures ∙ ap (λ (l : Listed ℕ). l.items) c.regs.ensures)
-    (c.as_slice-path.ensures ∙ ap (λ (l : Listed ℕ). l.items) c.regs-in-opening.ensures) c.requires.regs
+    (c.as_slice.ensures ∙ ap (λ (l : Roomy ℕ). l.items) c.regs.ensures)
+    (c.as_slice-path.ensures ∙ ap (λ (l : Roomy ℕ). l.items) c.regs-in-opening.ensures) c.requires.regs
     c.requires.regs c.all_on.ensures c.opening-test.true c.requires.rows
     c.in_ok-plan.ensures.writes c.in_ok-plan.ensures.reads in
     record {
@@ -113,5 +113,5 @@ returns-clause-plans c =
     last_plan c.args.net.now c.args.tree.now (seen_group c.args.group.now) c.args.now.now c.opening.now
     c.opening.route.items c.as_slice.result.now c.args.regs.now c.all_on.result c.opening.plans.items
     c.push_group.new.plans.items c.requires.not_empty c.opening.invariant.path
-    (c.as_slice.ensures ∙ ap (λ (l : Listed ℕ). l.items) c.regs.ensures) c.requires.regs c.all_on.ensures
+    (c.as_slice.ensures ∙ ap (λ (l : Roomy ℕ). l.items) c.regs.ensures) c.requires.regs c.all_on.ensures
     c.opening-test.false c.opening.invariant.so_far c.in_ok-push_group.ensures

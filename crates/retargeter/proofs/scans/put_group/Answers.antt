@@ -1,7 +1,7 @@
 use Rattle.std.proofs.Common.{◌≡◌, ◌+◌, suc, ℕ, Some, refl, sym, ap, ◌∙◌, subst, arith}
 use Rattle.std.specs.Prelude.{IfSome, is_some}
 use Rattle.std.proofs.lemmas.Result.{on_ok_weaker, on_err_weaker}
-use Rattle.ij_bits.specs.Room.{Listed}
+use Rattle.ij_bits.specs.Room.{Roomy}
 use Rattle.ij_io.proofs.Adding.{at_refusal, adds_none}
 use Rattle.net_graph.specs.SeenSteps.{seen_group}
 use Rattle.net_tree.specs.ScanPlans.{seen_plan}
@@ -34,7 +34,7 @@ opening-init g c = record {
 pub next-requires-clause-path : goal.next-requires-clause-path
 next-requires-clause-path g c =
     c.opening.invariant.path.path
-    ∙ ap Some (sym (c.as_slice.ensures ∙ ap (λ (l : Listed ℕ). l.items) c.regs.ensures))
+    ∙ ap Some (sym (c.as_slice.ensures ∙ ap (λ (l : Roomy ℕ). l.items) c.regs.ensures))
 
 pub returns-in_err-plan-clause-part : goal.returns-in_err-plan-clause-part
 returns-in_err-plan-clause-part g c =

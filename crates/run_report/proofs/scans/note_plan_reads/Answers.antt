@@ -1,6 +1,6 @@
 use Rattle.std.proofs.Common.{ℕ, List, ◌++◌, map, length, sym, ap, ◌∙◌, subst}
 use Rattle.std.specs.Prelude.{All, reverse}
-use Rattle.ij_bits.specs.Room.{Listed}
+use Rattle.ij_bits.specs.Room.{Roomy}
 use Rattle.net_graph.specs.Named.{IsBitOf}
 use Rattle.net_graph.specs.Resets.{zero_holds}
 use Rattle.net_graph.specs.declared.step.ReadBit.{ReadBit}
@@ -16,7 +16,7 @@ pub note_reads-requires-clause-there : goal.note_reads-requires-clause-there
 note_reads-requires-clause-there c =
     all_there (length c.args.net.now.regs.items) c.as_slice-path.result.now (is_route c.args.net.now
     c.args.holds.now c.walk.new.route.items c.walk.ensures.path c.requires.well_formed
-    c.as_slice-path.result.now (c.as_slice-path.ensures ∙ ap (λ (l : Listed ℕ). l.items) c.regs.ensures))
+    c.as_slice-path.result.now (c.as_slice-path.ensures ∙ ap (λ (l : Roomy ℕ). l.items) c.regs.ensures))
 
 pub note_reads-requires-clause-bits : goal.note_reads-requires-clause-bits
 note_reads-requires-clause-bits c =
@@ -27,7 +27,7 @@ pub note_reads-requires-clause-short : goal.note_reads-requires-clause-short
 note_reads-requires-clause-short c =
     let route = is_route c.args.net.now c.args.holds.now c.walk.new.route.items c.walk.ensures.path
     c.requires.well_formed c.as_slice-path.result.now
-    (c.as_slice-path.ensures ∙ ap (λ (l : Listed ℕ). l.items) c.regs.ensures) in
+    (c.as_slice-path.ensures ∙ ap (λ (l : Roomy ℕ). l.items) c.regs.ensures) in
     let path = reverse c.as_slice-path.result.now in
     chain_short c.args.net.now path c.requires.well_formed route (zero_holds c.args.net.now)
     (zero_shape c.args.net.now path c.requires.well_formed route)
@@ -35,7 +35,7 @@ note_reads-requires-clause-short c =
 pub returns-clause-places : goal.returns-clause-places
 returns-clause-places c =
     let net = c.args.net.now in
-    let same = c.as_slice-path.ensures ∙ ap (λ (l : Listed ℕ). l.items) c.regs.ensures in
+    let same = c.as_slice-path.ensures ∙ ap (λ (l : Roomy ℕ). l.items) c.regs.ensures in
     let are = ap (λ (p : List ℕ). map (place_on net (reverse p) c.args.scan) c.as_slice-reads.result.now) same
     ∙ ap (λ (rs : List ReadBit). map (place_on net (reverse c.walk.new.route.items) c.args.scan) rs)
     c.as_slice-reads.ensures

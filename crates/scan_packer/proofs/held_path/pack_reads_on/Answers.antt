@@ -1,6 +1,6 @@
 use Rattle.std.proofs.Common.{ℕ, List, length, sym, ap, ◌∙◌, subst}
 use Rattle.std.specs.Prelude.{reverse, All, Contains}
-use Rattle.ij_bits.specs.Room.{Listed}
+use Rattle.ij_bits.specs.Room.{Roomy}
 use Rattle.net_graph.specs.Chain.{chain}
 use Rattle.net_graph.specs.Resets.{zero_holds}
 use Rattle.net_graph.proofs.Shapes.{length-chain_same}
@@ -12,13 +12,13 @@ pub fill_reads-requires-clause-route : goal.fill_reads-requires-clause-route
 fill_reads-requires-clause-route c =
     is_route c.args.net.now c.args._holds.now c.args.path.now.route.items c.requires.held.path
     c.requires.well_formed c.as_slice-regs.result.now
-    (c.as_slice-regs.ensures ∙ ap (λ (l : Listed ℕ). l.items) c.regs.ensures)
+    (c.as_slice-regs.ensures ∙ ap (λ (l : Roomy ℕ). l.items) c.regs.ensures)
 
 pub fill_reads-requires-clause-count : goal.fill_reads-requires-clause-count
 fill_reads-requires-clause-count c =
     let net = c.args.net.now in
     let holds = c.args._holds.now in
-    let same = c.as_slice-regs.ensures ∙ ap (λ (l : Listed ℕ). l.items) c.regs.ensures in
+    let same = c.as_slice-regs.ensures ∙ ap (λ (l : Roomy ℕ). l.items) c.regs.ensures in
     let path = reverse c.as_slice-regs.result.now in
     let route = is_route net holds c.args.path.now.route.items c.requires.held.path
     c.requires.well_formed c.as_slice-regs.result.now same in
@@ -29,4 +29,4 @@ fill_reads-requires-clause-count c =
 pub fill_reads-requires-clause-on_path : goal.fill_reads-requires-clause-on_path
 fill_reads-requires-clause-on_path c =
     subst (λ (path : List ℕ). All (λ r. Contains path r.bit.reg) c.args.reads.now)
-    (sym (c.as_slice-regs.ensures ∙ ap (λ (l : Listed ℕ). l.items) c.regs.ensures)) c.requires.on_path
+    (sym (c.as_slice-regs.ensures ∙ ap (λ (l : Roomy ℕ). l.items) c.regs.ensures)) c.requires.on_path

@@ -1,6 +1,6 @@
 use Rattle.std.proofs.Common.{ℕ, List, length, refl, sym, ap, ◌∙◌, arith, subst}
 use Rattle.std.specs.Prelude.{reverse, All, Contains}
-use Rattle.ij_bits.specs.Room.{Listed}
+use Rattle.ij_bits.specs.Room.{Roomy}
 use Rattle.net_graph.specs.Chain.{chain}
 use Rattle.net_graph.specs.Resets.{zero_holds}
 use Rattle.net_graph.proofs.Shapes.{length-chain_same}
@@ -24,18 +24,18 @@ pub put_writes-requires-clause-route : goal.put_writes-requires-clause-route
 put_writes-requires-clause-route c =
     is_route c.args.net.now c.args._holds.now c.args.path.now.route.items c.requires.held.path
     c.requires.well_formed c.as_slice.result.now
-    (c.as_slice.ensures ∙ ap (λ (l : Listed ℕ). l.items) c.regs.ensures)
+    (c.as_slice.ensures ∙ ap (λ (l : Roomy ℕ). l.items) c.regs.ensures)
 
 pub put_writes-requires-clause-there : goal.put_writes-requires-clause-there
 put_writes-requires-clause-there c =
     all_there (length c.args.net.now.regs.items) c.as_slice.result.now (is_route c.args.net.now
     c.args._holds.now c.args.path.now.route.items c.requires.held.path c.requires.well_formed
-    c.as_slice.result.now (c.as_slice.ensures ∙ ap (λ (l : Listed ℕ). l.items) c.regs.ensures))
+    c.as_slice.result.now (c.as_slice.ensures ∙ ap (λ (l : Roomy ℕ). l.items) c.regs.ensures))
 
 pub put_writes-requires-clause-on_path : goal.put_writes-requires-clause-on_path
 put_writes-requires-clause-on_path c =
     subst (λ (path : List ℕ). All (λ w. Contains path w.bit.reg) c.args.writes.now)
-    (sym (c.as_slice.ensures ∙ ap (λ (l : Listed ℕ). l.items) c.regs.ensures)) c.requires.on_path
+    (sym (c.as_slice.ensures ∙ ap (λ (l : Roomy ℕ). l.items) c.regs.ensures)) c.requires.on_path
 
 pub put_writes-requires-clause-short : goal.put_writes-requires-clause-short
 put_writes-requires-clause-short c =
@@ -43,7 +43,7 @@ put_writes-requires-clause-short c =
     let path = reverse c.as_slice.result.now in
     let route = is_route net c.args._holds.now c.args.path.now.route.items c.requires.held.path
     c.requires.well_formed c.as_slice.result.now
-    (c.as_slice.ensures ∙ ap (λ (l : Listed ℕ). l.items) c.regs.ensures) in
+    (c.as_slice.ensures ∙ ap (λ (l : Roomy ℕ). l.items) c.regs.ensures) in
     chain_short net path c.requires.well_formed route (zero_holds net)
     (zero_shape net path c.requires.well_formed route)
 
@@ -51,7 +51,7 @@ pub put_writes-requires-clause-long : goal.put_writes-requires-clause-long
 put_writes-requires-clause-long c =
     let net = c.args.net.now in
     let holds = c.args._holds.now in
-    let same = c.as_slice.ensures ∙ ap (λ (l : Listed ℕ). l.items) c.regs.ensures in
+    let same = c.as_slice.ensures ∙ ap (λ (l : Roomy ℕ). l.items) c.regs.ensures in
     let path = reverse c.as_slice.result.now in
     let route = is_route net holds c.args.path.now.route.items c.requires.held.path
     c.requires.well_formed c.as_slice.result.now same in

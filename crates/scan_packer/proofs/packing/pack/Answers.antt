@@ -1,6 +1,6 @@
 use Rattle.std.proofs.Common.{ℕ, length, refl, sym, ap, ◌∙◌}
 use Rattle.std.specs.Prelude.{reverse}
-use Rattle.ij_bits.specs.Room.{Listed}
+use Rattle.ij_bits.specs.Room.{Roomy}
 use Rattle.net_graph.specs.Chain.{chain}
 use Rattle.net_graph.specs.Resets.{zero_holds}
 use Rattle.net_graph.proofs.Shapes.{length-chain_same}
@@ -14,7 +14,7 @@ pub fill_reads-requires-clause-route : goal.fill_reads-requires-clause-route
 fill_reads-requires-clause-route c =
     is_route c.args.net.now c.args.holds.now c.pack_tdi.new.route.items c.pack_tdi.ensures.path
     c.requires.well_formed c.as_slice-path.result.now
-    (c.as_slice-path.ensures ∙ ap (λ (l : Listed ℕ). l.items) c.regs.ensures)
+    (c.as_slice-path.ensures ∙ ap (λ (l : Roomy ℕ). l.items) c.regs.ensures)
 
 pub fill_reads-requires-clause-count : goal.fill_reads-requires-clause-count
 fill_reads-requires-clause-count c =
@@ -22,7 +22,7 @@ fill_reads-requires-clause-count c =
     let holds = c.args.holds.now in
     let route = c.pack_tdi.new.route.items in
     let path = c.as_slice-path.result.now in
-    let same = c.as_slice-path.ensures ∙ ap (λ (l : Listed ℕ). l.items) c.regs.ensures in
+    let same = c.as_slice-path.ensures ∙ ap (λ (l : Roomy ℕ). l.items) c.regs.ensures in
     let r = is_route net holds route c.pack_tdi.ensures.path c.requires.well_formed path same in
     let held = can_pack net holds route c.pack_tdi.ensures.path path (seen_plan c.args.plan.now)
     c.args.plan.now.writes.items c.args.plan.now.reads.items c.requires.plan same refl refl in
@@ -37,4 +37,4 @@ fill_reads-requires-clause-on_path c =
     c.as_slice.result.now (can_pack c.args.net.now c.args.holds.now c.pack_tdi.new.route.items
     c.pack_tdi.ensures.path c.as_slice-path.result.now
     (seen_plan c.args.plan.now) c.args.plan.now.writes.items c.as_slice.result.now c.requires.plan
-    (c.as_slice-path.ensures ∙ ap (λ (l : Listed ℕ). l.items) c.regs.ensures) refl c.as_slice.ensures)
+    (c.as_slice-path.ensures ∙ ap (λ (l : Roomy ℕ). l.items) c.regs.ensures) refl c.as_slice.ensures)

@@ -12,7 +12,7 @@ route_len-requires-clause-few c =
     let holds = c.holds.result.now in
     let held : AreHolds net holds =
     subst (λ (n : Net). AreHolds n holds) c.requires.net c.holds.ensures.shape in
-    let path : c.as_slice.result.now ≡ route_of net holds = c.as_slice.ensures ∙ c.path.ensures.path
+    let path : c.path.result.now ≡ route_of net holds = c.path.ensures.path
     ∙ ap (λ (n : Net). route_of n c.args.bench.now.state.holds) c.requires.net
     ∙ ap (route_of net) (sym c.holds.ensures.holds) in
     subst (λ (p : List ℕ). length (chain p holds) ≤ 4096) (sym path)

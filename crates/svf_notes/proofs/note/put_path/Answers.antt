@@ -19,7 +19,7 @@ pub put_rows-requires-clause-route : goal.put_rows-requires-clause-route
 put_rows-requires-clause-route c =
     let net = c.args.net.now in
     let holds = c.args.bench.now.state.holds in
-    let path : c.as_slice.result.now ≡ route_of net holds =
-    c.as_slice.ensures ∙ c.path.ensures.path ∙ ap (λ (n : Net). route_of n holds) c.requires.net in
-    subst (λ (n : Net). IsRoute (length n.regs.items) c.as_slice.result.now) (sym c.requires.heads)
+    let path : c.path.result.now ≡ route_of net holds =
+    c.path.ensures.path ∙ ap (λ (n : Net). route_of n holds) c.requires.net in
+    subst (λ (n : Net). IsRoute (length n.regs.items) c.path.result.now) (sym c.requires.heads)
     (subst (IsRoute (length net.regs.items)) (sym path) (route_is net holds c.requires.well_formed))

@@ -1,6 +1,6 @@
 use Rattle.std.proofs.Common.{ℕ, length, ap, ◌∙◌, arith}
 use Rattle.std.specs.Prelude.{reverse}
-use Rattle.ij_bits.specs.Room.{Listed}
+use Rattle.ij_bits.specs.Room.{Roomy}
 use Rattle.scan_packer.proofs.Rooms.{all_there, chain_few, chain_short}
 use Rattle.scan_packer.proofs.Routes.{is_route}
 use Rattle.scan_packer.proofs.held_path.HeldPath.find.Goals as goal
@@ -9,13 +9,13 @@ pub fill_held-requires-clause-there : goal.fill_held-requires-clause-there
 fill_held-requires-clause-there c =
     all_there (length c.args.net.now.regs.items) c.as_slice.result.now (is_route c.args.net.now
     c.args.holds.now c.walk.new.route.items c.walk.ensures.path c.requires.well_formed
-    c.as_slice.result.now (c.as_slice.ensures ∙ ap (λ (l : Listed ℕ). l.items) c.regs.ensures))
+    c.as_slice.result.now (c.as_slice.ensures ∙ ap (λ (l : Roomy ℕ). l.items) c.regs.ensures))
 
 pub fill_held-requires-clause-room : goal.fill_held-requires-clause-room
 fill_held-requires-clause-room c =
     let route = is_route c.args.net.now c.args.holds.now c.walk.new.route.items c.walk.ensures.path
     c.requires.well_formed c.as_slice.result.now
-    (c.as_slice.ensures ∙ ap (λ (l : Listed ℕ). l.items) c.regs.ensures) in
+    (c.as_slice.ensures ∙ ap (λ (l : Roomy ℕ). l.items) c.regs.ensures) in
     omega (
       arith,
       chain_few c.args.net.now (reverse c.as_slice.result.now) c.requires.well_formed route
@@ -28,4 +28,4 @@ fill_held-requires-clause-short c =
     chain_short c.args.net.now (reverse c.as_slice.result.now) c.requires.well_formed
     (is_route c.args.net.now c.args.holds.now c.walk.new.route.items c.walk.ensures.path
     c.requires.well_formed c.as_slice.result.now (c.as_slice.ensures
-    ∙ ap (λ (l : Listed ℕ). l.items) c.regs.ensures)) c.args.holds.now c.requires.holds
+    ∙ ap (λ (l : Roomy ℕ). l.items) c.regs.ensures)) c.args.holds.now c.requires.holds

@@ -1,5 +1,5 @@
 use Rattle.std.proofs.Common.{◌+◌, ◌≤◌, ap, sym, ◌∙◌, subst, arith, length, List, ℕ}
-use Rattle.ij_bits.specs.Room.{Listed}
+use Rattle.ij_bits.specs.Room.{Roomy}
 use Rattle.net_graph.specs.declared.net.Net.{Net}
 use Rattle.net_graph.specs.Chain.{IsRoute, chain}
 use Rattle.net_graph.specs.Resets.{start_holds}
@@ -64,7 +64,7 @@ find_chain-requires-clause-room c =
       c.requires.sound.chain_room,
     )
 
-abbrev HasRoom : Net → Listed ℕ → Type 0
+abbrev HasRoom : Net → Roomy ℕ → Type 0
 HasRoom net path = length net.regs.items ≤ length path.items + path.spare
 
 pub returns-clause-sound : goal.returns-clause-sound
@@ -82,7 +82,7 @@ returns-clause-sound c =
       known = c.find_bits.ensures.items
           ∙ sym (bits_at_start r.net.now r.holds c.as_slice-path.result.now k.holds)
           ∙ ap (bits_on (start_holds r.net.now))
-          (c.as_slice-path.ensures ∙ sym (ap (λ (l : Listed ℕ). l.items) c.swap.ensures.x_after));
+          (c.as_slice-path.ensures ∙ sym (ap (λ (l : Roomy ℕ). l.items) c.swap.ensures.x_after));
       chain_room = omega (arith, k.chain_room, c.find_chain.ensures.room);
       moved_room = k.moved_room;
     }
@@ -90,7 +90,7 @@ returns-clause-sound c =
 pub returns-clause-found : goal.returns-clause-found
 returns-clause-found c =
     record {
-      path = ap (λ (l : Listed ℕ). l.items) c.swap.ensures.x_after ∙ c.find_path.ensures.path;
+      path = ap (λ (l : Roomy ℕ). l.items) c.swap.ensures.x_after ∙ c.find_path.ensures.path;
       bits = c.find_bits.ensures.items
           ∙ ap (bits_on c.args.self.now.holds) (c.as_slice-path.ensures ∙ c.find_path.ensures.path);
     }

@@ -1,2 +1,0 @@
-pub mod OneTern
-pub mod ViewsKept

@@ -1,5 +1,0 @@
--- the meaning
-pub mod Trimmed
-pub mod Device
--- laws and examples
-pub mod Laws
