@@ -37,7 +37,8 @@ use Rattle.bench_file.specs.declared.fault.FitsFault.TheVariants.{PortWidth}
 use Rattle.bench_file.specs.Fits.{in_port, out_port, in_ports, out_ports, model_out_port, model_out_ports}
 use Rattle.bench_file.specs.Fits.{same_port, among, same_ports, has_ports, ModelFits, EachFits, ModelsFit}
 use Rattle.bench_file.specs.Fits.{input_names, moved, operand_moved, cond_moved, slot_moved, amount_moved}
-use Rattle.bench_file.specs.Fits.{set_moved, row_moved, no_out, out_named, arranged, table_named, inst_path}
+use Rattle.bench_file.specs.Fits.{set_moved, row_moved, no_out, out_named, with_ports_in_order, table_named}
+use Rattle.bench_file.specs.Fits.{inst_path}
 use Rattle.bench_file.specs.Fits.{before, one_model, models_from, unless, missing, extra, fitted, misfit}
 use Rattle.bench_file.specs.Fits.{FittedModelsFit, RowsSayTheSame}
 use Rattle.bench_file.specs.Written.{line, parted, memory_name, operand_text, entry_text, compared_text}
@@ -414,8 +415,8 @@ module _ (net : Net) (inst : Inst) (m : SeenModel) (is : IsInst net inst)
 -- ---- all instruments
 
 fits_one : (net : Net) (inst : Inst) (m : SeenModel) → IsInst net inst → IsModel m
-    → has_ports inst m ≡ true → ModelFits inst (arranged inst m)
-unfolding arranged
+    → has_ports inst m ≡ true → ModelFits inst (with_ports_in_order inst m)
+unfolding with_ports_in_order
 fits_one net inst m is model ports = arranged_fits net inst m is model ports
 
 either_table : (b : Bool) (x y : Option SeenTable) → IfSome x (λ t. IsModel t.model)
@@ -439,7 +440,8 @@ module _ (net : Net) (ts : List SeenTable) (all : All (λ t. IsModel t.model) ts
     where
       one : (b : Bool) → has_ports inst t.model ≡ b
           → (r : Result (List SeenModel) FitsFault) → IfOk r (EachFits insts)
-          → IfOk (cond b (before (arranged inst t.model) r) (Err (PortWidth i))) (EachFits (inst ∷ insts))
+          → IfOk (cond b (before (with_ports_in_order inst t.model) r) (Err (PortWidth i))) (EachFits (inst
+          ∷ insts))
       one true ports (Ok ms) h = (fits_one net inst t.model is model ports, h)
       one true ports (Err fault) h = tt
       one false ports r h = tt
@@ -464,7 +466,7 @@ module _ (net : Net) (ts : List SeenTable) (all : All (λ t. IsModel t.model) ts
       (models_from net ts 0 net.insts.items) (all_insts 0 net.insts.items is.insts)
 
 pub rows_say_the_same : RowsSayTheSame
-unfolding arranged
+unfolding with_ports_in_order
 rows_say_the_same net inst m kind row is model ports well = row_says net inst m is model ports kind row well
 
 pub fitted_models_fit : FittedModelsFit

@@ -17,7 +17,7 @@ use Rattle.table_lines.specs.Words.{path, number, decimal, plain, is_wide, value
 use Rattle.table_lines.specs.Said.{line, instrument, version}
 use Rattle.table_file.specs.Tables.{SeenTable, tables}
 use Rattle.bench_file.specs.Written.{tables_text, table_text, model_text}
-use Rattle.bench_file.specs.Fits.{fitted, arranged}
+use Rattle.bench_file.specs.Fits.{fitted, with_ports_in_order}
 
 abbrev line_at : ℕ → Place
 line_at n = record { line = n; col = 1 }
@@ -135,7 +135,7 @@ abbrev of_c : SeenTable
 of_c = record { path = codes "c" ∷ []; at = line_at 9; model = other_order 2 }
 
 fits_in_order : fitted net (of_b 2 ∷ []) ≡ Ok (net_order ∷ [])
-unfolding fitted arranged
+unfolding fitted with_ports_in_order
 fits_in_order = refl
 
 no_table : fitted net (of_c ∷ []) ≡ Err (NoTable 0)
@@ -251,5 +251,5 @@ unfolding tables lines_of end_of version instrument path line number decimal
 straight_read = refl
 
 turned_fits : fitted alike (of_u turned ∷ []) ≡ Ok (straight ∷ [])
-unfolding fitted arranged
+unfolding fitted with_ports_in_order
 turned_fits = refl

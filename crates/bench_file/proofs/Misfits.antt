@@ -11,7 +11,8 @@ use Rattle.bench_file.specs.declared.fault.FitsFault.{FitsFault}
 use Rattle.bench_file.specs.declared.fault.FitsFault.TheVariants.{NoTable, ExtraTable, PortWidth}
 use Rattle.table_file.specs.declared.table.Table.{Table}
 use Rattle.table_file.specs.Tables.{SeenTable, same_path, seen_table}
-use Rattle.bench_file.specs.Fits.{has_ports, arranged, before, one_model, models_from, table_named, inst_path}
+use Rattle.bench_file.specs.Fits.{has_ports, with_ports_in_order, before, one_model, models_from}
+use Rattle.bench_file.specs.Fits.{table_named, inst_path}
 use Rattle.bench_file.specs.Fits.{misfit, inst_misfit, name_texts, names_one, extra}
 
 and_false : (b : Bool) → (b && false) ≡ false
@@ -44,7 +45,8 @@ fits_one i m rest false h = absurd cc
 one_fits : (i : ℕ) (inst : Inst) (o : Option SeenTable) (rest : Result (List SeenModel) FitsFault)
     → inst_misfit i inst o ≡ None → misfit (one_model i inst o rest) ≡ misfit rest
 one_fits i inst None rest h = absurd cc
-one_fits i inst (Some t) rest h = fits_one i (arranged inst t.model) rest (has_ports inst t.model) h
+one_fits i inst (Some t) rest h = fits_one i (with_ports_in_order inst t.model) rest (has_ports inst
+    t.model) h
 
 pub one_more : (net : Net) (ts : List SeenTable) (i : ℕ) (insts : List Inst) (inst : Inst)
     → i < length insts → inst ≡ get_or insts i inst
@@ -68,7 +70,7 @@ no_fit i m rest false h = refl
 one_fails : (i : ℕ) (inst : Inst) (o : Option SeenTable) (rest : Result (List SeenModel) FitsFault)
     → is_some (inst_misfit i inst o) ≡ true → misfit (one_model i inst o rest) ≡ inst_misfit i inst o
 one_fails i inst None rest h = refl
-one_fails i inst (Some t) rest h = no_fit i (arranged inst t.model) rest (has_ports inst t.model) h
+one_fails i inst (Some t) rest h = no_fit i (with_ports_in_order inst t.model) rest (has_ports inst t.model) h
 
 pub one_misfit : (net : Net) (ts : List SeenTable) (i : ℕ) (insts : List Inst) (inst : Inst)
     → i < length insts → inst ≡ get_or insts i inst → (fault : Option FitsFault)

@@ -11,7 +11,8 @@ use Rattle.bench_file.specs.declared.fault.FitsFault.{FitsFault}
 use Rattle.bench_file.specs.declared.fault.FitsFault.TheVariants.{NoTable, ExtraTable, PortWidth, OutOfMemory}
 use Rattle.table_file.specs.Tables.{SeenTable}
 use Rattle.bench_file.specs.Answers.{FitsFails}
-use Rattle.bench_file.specs.Fits.{has_ports, arranged, before, one_model, model_for, models_from, table_named}
+use Rattle.bench_file.specs.Fits.{has_ports, with_ports_in_order, before, one_model, model_for, models_from}
+use Rattle.bench_file.specs.Fits.{table_named}
 use Rattle.bench_file.specs.Fits.{inst_path, unless, misfit}
 
 abbrev pub with_front : List SeenModel → Result (List SeenModel) FitsFault → Result (List SeenModel) FitsFault
@@ -28,8 +29,8 @@ one_ok : (i : ℕ) (inst : Inst) (o : Option SeenTable) (rest : Result (List See
 one_ok i inst None rest m is = absurd cc
 one_ok i inst (Some t) rest m is = one (has_ports inst t.model) is
   where
-    one : (b : Bool) → cond b (Ok (arranged inst t.model)) (Err (PortWidth i)) ≡ Ok m
-        → cond b (before (arranged inst t.model) rest) (Err (PortWidth i)) ≡ before m rest
+    one : (b : Bool) → cond b (Ok (with_ports_in_order inst t.model)) (Err (PortWidth i)) ≡ Ok m
+        → cond b (before (with_ports_in_order inst t.model) rest) (Err (PortWidth i)) ≡ before m rest
     one true is =
         ap (λ (r : Result SeenModel FitsFault). elim r [ Ok n ↦ before n rest | Err f ↦ before m rest ]) is
     one false is = absurd cc
@@ -40,8 +41,8 @@ one_err i inst None rest fault is =
     ap (λ (r : Result SeenModel FitsFault). elim r [ Ok n ↦ Err fault | Err f ↦ Err f ]) is
 one_err i inst (Some t) rest fault is = one (has_ports inst t.model) is
   where
-    one : (b : Bool) → cond b (Ok (arranged inst t.model)) (Err (PortWidth i)) ≡ Err fault
-        → cond b (before (arranged inst t.model) rest) (Err (PortWidth i)) ≡ Err fault
+    one : (b : Bool) → cond b (Ok (with_ports_in_order inst t.model)) (Err (PortWidth i)) ≡ Err fault
+        → cond b (before (with_ports_in_order inst t.model) rest) (Err (PortWidth i)) ≡ Err fault
     one true is = absurd cc
     one false is = ap (λ (r : Result SeenModel FitsFault). elim r [ Ok n ↦ Err fault | Err f ↦ Err f ]) is
 

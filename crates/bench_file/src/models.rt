@@ -8,7 +8,8 @@ ghost use Rattle.instruments.specs.Seen.{seen_model, seen_memory, seen_out, seen
 ghost use Rattle.table_file.specs.Answers.{seen_tables};
 ghost use Rattle.table_file.specs.Tables.{seen_table};
 ghost use Rattle.bench_file.specs.Answers.{GivesModels, seen_models};
-ghost use Rattle.bench_file.specs.Fits.{arranged, fitted, in_ports, misfit, model_for, models_from};
+ghost use Rattle.bench_file.specs.Fits.{with_ports_in_order, fitted, in_ports, misfit, model_for};
+ghost use Rattle.bench_file.specs.Fits.{models_from};
 ghost use Rattle.bench_file.specs.Fits.{out_named, out_ports, row_moved, ModelsFit};
 ghost use Rattle.bench_file.specs.declared.fault.FitsFault.{FitsFault};
 
@@ -49,7 +50,10 @@ impl Fitted {
 }
 
 /// The words and the memory of a model.
-fn cells(alloc: Global, m: &Model) -> Result<(List<WordDef>, Option<MemDef>), OutOfMemory>
+fn words_and_memory(
+    alloc: Global,
+    m: &Model,
+) -> Result<(List<WordDef>, Option<MemDef>), OutOfMemory>
     ensures words { IfOk result (λ cells. map seen_word cells.0.items ≡ map seen_word m.now.words.items) }
     ensures memory { IfOk result
         (λ cells. option_map seen_memory cells.1 ≡ option_map seen_memory m.now.mem) }
@@ -90,13 +94,13 @@ fn rows(alloc: Global, inst: &Inst, m: &Model) -> Result<(List<RowDef>, List<Row
 }
 
 /// A model with the ports in the order of an instrument.
-#[tactic(auto, unfolding(crate::specs::Fits::arranged))]
-fn arranged(alloc: Global, inst: &Inst, m: &Model) -> Result<Model, OutOfMemory>
+#[tactic(auto, unfolding(crate::specs::Fits::with_ports_in_order))]
+fn with_ports_in_order(alloc: Global, inst: &Inst, m: &Model) -> Result<Model, OutOfMemory>
     requires few { length inst.now.ins.items ≤ 16 }
     requires narrow { All (λ port. length port.bits.items ≤ 64) inst.now.ins.items }
-    ensures { IfOk result (λ r. seen_model r ≡ arranged inst.now (seen_model m.now)) }
+    ensures { IfOk result (λ r. seen_model r ≡ with_ports_in_order inst.now (seen_model m.now)) }
 {
-    let (words, mem) = cells(alloc, m)?;
+    let (words, mem) = words_and_memory(alloc, m)?;
     let (ins, outs) = ports(alloc, inst, m)?;
     let (change, run) = rows(alloc, inst, m)?;
     Ok(Model {
@@ -122,7 +126,7 @@ fn model_for(alloc: Global, i: u32, inst: &Inst, table: Option<&Table>) -> Resul
             if !has_ports(inst, &t.model) {
                 return Err(FitsFault::PortWidth { inst: i });
             }
-            let model = arranged(alloc, inst, &t.model)?;
+            let model = with_ports_in_order(alloc, inst, &t.model)?;
             Ok(model)
         }
     }

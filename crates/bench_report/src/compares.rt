@@ -20,7 +20,7 @@ pub(crate) struct Counted {
 }
 
 /// Writes the line of a compare that differs, with its iRead.
-fn put_named<N: ReadNames, K: Sink>(
+fn put_differing_compare<N: ReadNames, K: Sink>(
     names: &mut N,
     pins: &Pins,
     expect: bool,
@@ -62,7 +62,7 @@ fn put_compare<N: ReadNames, K: Sink>(
 {
     if let Some(expect) = pins.expect {
         if expect != found {
-            put_named(names, &pins, expect, found, k)?;
+            put_differing_compare(names, &pins, expect, found, k)?;
             return Ok(1);
         }
     }
@@ -70,7 +70,7 @@ fn put_compare<N: ReadNames, K: Sink>(
 }
 
 /// Writes the lines of the compares of some clocks that differ; answers how many lines that are.
-fn put_piece<N: ReadNames, K: Sink>(
+fn put_played_compares<N: ReadNames, K: Sink>(
     names: &mut N,
     played: &Played,
     k: &mut K,
@@ -116,7 +116,7 @@ pub(crate) fn put_compares<N: ReadNames, K: Sink>(
     let mut clocks = 0u64;
     let mut differs = 0u64;
     while let Some(played) = bench.play(player) {
-        differs += put_piece(names, &played, k)?;
+        differs += put_played_compares(names, &played, k)?;
         clocks += u64::from(played.piece.count);
     }
     Ok(Counted { clocks, differs })

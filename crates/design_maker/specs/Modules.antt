@@ -9,7 +9,8 @@ use Rattle.icl_lexer.specs.declared.tree.PortKind.TheVariants.{ToUpdateEnPort, T
 use Rattle.icl_lexer.specs.declared.tree.LinkKind.TheVariants.{Std2001}
 use Rattle.icl_lexer.specs.Values.{ASized, AScanInSource, ACaptureSource, ALoadValue, AResetValue, APolarity}
 use Rattle.icl_lexer.specs.Values.{APort, ARegister, AMux, ALink, SeenLinkInstr, SeenItem, SeenModule}
-use Rattle.design_maker.specs.Parts.{module_of, item, the_width, whole_width, lowest, ranged, signal, port}
+use Rattle.design_maker.specs.Parts.{module_of, item, the_width, whole_width, lowest_bit_range, ranged}
+use Rattle.design_maker.specs.Parts.{signal, port}
 use Rattle.design_maker.specs.Parts.{sourced, wide_port, interface, width_parameter, attribute, instance}
 use Rattle.design_maker.specs.Parts.{bound, bound_width, mux_row}
 
@@ -61,7 +62,7 @@ ins_module =
 abbrev pub wrap_ports : List SeenItem
 wrap_ports =
     port ScanInPort (codes "SI") ∷ port SelectPort (codes "SEL") ∷ port TCKPort (codes "TCK")
-    ∷ sourced ScanOutPort (codes "SO") (ranged (codes "R" ∷ []) (Some lowest))
+    ∷ sourced ScanOutPort (codes "SO") (ranged (codes "R" ∷ []) (Some lowest_bit_range))
     ∷ interface (codes "client") (codes "SI" ∷ codes "SEL" ∷ codes "TCK" ∷ codes "SO" ∷ []) ∷ []
 
 -- it captures what the instrument shows

@@ -28,8 +28,8 @@ whole_width =
     record { at = no_place; left = AnOp no_place Minus the_width (ADecimal 1); right = Some (ADecimal 0) }
 
 -- `[0]`
-abbrev pub lowest : SeenRange
-lowest = record { at = no_place; left = ADecimal 0; right = None }
+abbrev pub lowest_bit_range : SeenRange
+lowest_bit_range = record { at = no_place; left = ADecimal 0; right = None }
 
 abbrev pub ranged : List (List ℕ) → Option SeenRange → SeenSig
 ranged path range = record { at = no_place; inverted = false; what = APath path range }

@@ -207,7 +207,7 @@ pub(crate) fn bound_width(alloc: Global, value: Expr) -> Result<Bind, OutOfMemor
 }
 
 /// A sized number, as the one of a concatenation.
-pub(crate) fn sized(alloc: Global, text: &[u8]) -> Result<OneOrMore<Expr>, OutOfMemory>
+pub(crate) fn sized_number(alloc: Global, text: &[u8]) -> Result<OneOrMore<Expr>, OutOfMemory>
     ensures { IfOk result (λ value. seen_few seen_expr value ≡ ASized text.now ∷ []) }
 {
     Ok(OneOrMore::one(Expr::Sized(SmallText::of(alloc, text)?)))
@@ -218,7 +218,7 @@ pub(crate) fn mux_row(alloc: Global, value: &[u8], source: &[u8]) -> Result<MuxR
     ensures { IfOk result (λ row. seen_row row ≡ mux_row value.now source.now) }
 {
     let source = signal(alloc, &[source])?;
-    let Ok(value) = sized(alloc, value) else {
+    let Ok(value) = sized_number(alloc, value) else {
         drop(source);
         return Err(OutOfMemory);
     };

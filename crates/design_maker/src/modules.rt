@@ -8,8 +8,8 @@ ghost use Rattle.design_maker.specs.Modules.{chip_module, client_side, data_regi
 ghost use Rattle.design_maker.specs.Modules.{inner_instrument, ins_module, link_instruction, segment_mux};
 ghost use Rattle.design_maker.specs.Modules.{select_bit, sib_module, wrap_module, wrap_ports};
 
-use crate::items::{Items, bound, bound_width, mux_row, sized};
-use crate::signals::{lowest, one, ranged, signal, the_width, whole_width};
+use crate::items::{Items, bound, bound_width, mux_row, sized_number};
+use crate::signals::{lowest_bit_range, one, ranged, signal, the_width, whole_width};
 use icl_lexer::{LinkInstr, LinkKind, Module, PortKind, Prop, SmallText, What};
 use ij_bits::{List, OutOfMemory};
 use std::alloc::Global;
@@ -62,7 +62,7 @@ fn add_select_bit(alloc: Global, items: &mut Items) -> Result<(), OutOfMemory>
     let mut props = List::new(alloc);
     props.push(Prop::ScanInSource(signal(alloc, &[b"m"])?))?;
     props.push(Prop::CaptureSource(one(alloc, signal(alloc, &[b"SR"])?)?))?;
-    props.push(Prop::ResetValue(sized(alloc, b"1'b0")?))?;
+    props.push(Prop::ResetValue(sized_number(alloc, b"1'b0")?))?;
     items.add(b"SR", What::Register { range: None, props })
 }
 
@@ -113,7 +113,7 @@ fn add_wrap_ports(alloc: Global, items: &mut Items) -> Result<(), OutOfMemory>
     items.port(PortKind::ScanInPort, b"SI")?;
     items.port(PortKind::SelectPort, b"SEL")?;
     items.port(PortKind::TCKPort, b"TCK")?;
-    let source = ranged(alloc, &[b"R"], Some(lowest(alloc)?))?;
+    let source = ranged(alloc, &[b"R"], Some(lowest_bit_range(alloc)?))?;
     items.sourced(PortKind::ScanOutPort, b"SO", source)?;
     items.interface(b"client", &[b"SI", b"SEL", b"TCK", b"SO"])
 }
@@ -127,8 +127,8 @@ fn add_data_register(alloc: Global, items: &mut Items) -> Result<(), OutOfMemory
     let mut props = List::new(alloc);
     props.push(Prop::ScanInSource(signal(alloc, &[b"SI"])?))?;
     props.push(Prop::CaptureSource(one(alloc, signal(alloc, &[b"ins", b"q"])?)?))?;
-    props.push(Prop::DefaultLoadValue(sized(alloc, b"$W'b0")?))?;
-    props.push(Prop::ResetValue(sized(alloc, b"$W'b0")?))?;
+    props.push(Prop::DefaultLoadValue(sized_number(alloc, b"$W'b0")?))?;
+    props.push(Prop::ResetValue(sized_number(alloc, b"$W'b0")?))?;
     items.add(b"R", What::Register { range, props })
 }
 

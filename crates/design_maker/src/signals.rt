@@ -1,7 +1,7 @@
 // Expressions, signals and properties of a made design, which are at no place of a text.
 ghost use Rattle.std.specs.Prelude.{◌≡◌, ◌≤◌, ◌++◌, [], ◌∷◌, length, map, option_map, IfOk, OnOk};
 ghost use Rattle.icl_lexer.specs.Views.{bytes_of, seen_expr, seen_range, seen_sig};
-ghost use Rattle.design_maker.specs.Parts.{lowest, ranged, signal, the_width, whole_width};
+ghost use Rattle.design_maker.specs.Parts.{lowest_bit_range, ranged, signal, the_width, whole_width};
 
 use icl_lexer::{Ends, Expr, OneOrMore, Range, Sig, SigWhat, Sign, SmallText};
 use ij_bits::{List, OutOfMemory};
@@ -44,8 +44,8 @@ pub(crate) fn whole_width(alloc: Global) -> Result<Range, OutOfMemory>
 }
 
 /// `[0]`
-pub(crate) fn lowest(alloc: Global) -> Result<Range, OutOfMemory>
-    ensures { IfOk result (λ range. seen_range range ≡ lowest) }
+pub(crate) fn lowest_bit_range(alloc: Global) -> Result<Range, OutOfMemory>
+    ensures { IfOk result (λ range. seen_range range ≡ lowest_bit_range) }
 {
     let ends = Ends {
         left: Expr::Decimal(0),
@@ -76,7 +76,7 @@ pub(crate) fn names(alloc: Global, words: &[&[u8]]) -> Result<List<SmallText>, O
 }
 
 /// A path with one more name.
-fn longer(
+fn path_with_name(
     alloc: Global,
     path: OneOrMore<SmallText>,
     word: &[u8],
@@ -97,7 +97,7 @@ fn path_of(alloc: Global, words: &[&[u8]]) -> Result<OneOrMore<SmallText>, OutOf
 {
     let mut path = OneOrMore::one(SmallText::of(alloc, words[0])?);
     for word in &words[1..] {
-        path = longer(alloc, path, word)?;
+        path = path_with_name(alloc, path, word)?;
     }
     Ok(path)
 }

@@ -29,7 +29,7 @@ fn put_table(i: u64, width: u32, tables: &mut SureSink) -> Result<(), StoreFault
 }
 
 /// Writes the table of each instrument.
-fn put_each(instruments: &List<Instrument>, tables: &mut SureSink) -> Result<(), StoreFault>
+fn put_each_table(instruments: &List<Instrument>, tables: &mut SureSink) -> Result<(), StoreFault>
     requires { length instruments.now.items ≤ 64 }
     ensures { OnOk result (tables.new ≡ tables.old ++ numbered instrument_table 1 instruments.now.items) }
 {
@@ -46,7 +46,7 @@ fn put_tables(instruments: &List<Instrument>, tables: &mut SureSink) -> Result<(
     ensures { OnOk result (tables.new ≡ tables.old ++ tables_text instruments.now.items) }
 {
     tables.write(b"tables 1\n")?;
-    put_each(instruments, tables)?;
+    put_each_table(instruments, tables)?;
     Ok(())
 }
 

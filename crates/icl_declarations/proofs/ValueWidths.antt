@@ -8,7 +8,7 @@ use Rattle.icl_declarations.specs.Faults.{Answer, ◌>>=◌, each, WidthDiffers}
 use Rattle.icl_declarations.specs.Values.{OpenBits, ParamValue, AnInteger, SomeBits, AText, Params}
 use Rattle.icl_declarations.specs.Values.{integer_bits}
 use Rattle.icl_declarations.specs.Sized.{fits, in_width}
-use Rattle.icl_declarations.specs.Expressions.{evaluate, place_in}
+use Rattle.icl_declarations.specs.Expressions.{evaluate, fault_place}
 use Rattle.icl_declarations.specs.Widths.{fit_unsized, fit_sized, fit_number, one_part, joined, parts_value}
 use Rattle.icl_declarations.specs.Widths.{value_in}
 
@@ -56,7 +56,8 @@ value_is_wide : (ps : Params) (holder : Place) (width : ℕ) (es : List SeenExpr
 unfolding value_in
 value_is_wide ps holder width [] = parts_wide ps holder width []
 value_is_wide ps holder width (e ∷ []) = then_wide width (evaluate ps holder e)
-    (fit_number holder (place_in holder e) width) (λ value. lone_wide holder (place_in holder e) width value)
+    (fit_number holder (fault_place holder e) width) (λ value. lone_wide holder (fault_place holder e) width
+    value)
 value_is_wide ps holder width (e ∷ f ∷ es) = parts_wide ps holder width (e ∷ f ∷ es)
 
 pub value_wide : (ps : Params) (holder : Place) (width : ℕ) (es : List SeenExpr) (bits : OpenBits)

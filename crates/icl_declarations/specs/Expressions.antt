@@ -14,7 +14,8 @@ use Rattle.icl_lexer.specs.Values.{SeenExpr, ADecimal, ASized, AQuoted, AParam, 
 use Rattle.icl_declarations.specs.Faults.{Answer, ◌>>=◌, NoParameter, DivideByZero, BadNumber, WrongKind}
 use Rattle.icl_declarations.specs.Values.{OpenBits, ParamValue, AnInteger, SomeBits, AText, Params}
 use Rattle.icl_declarations.specs.Values.{param_value}
-use Rattle.icl_declarations.specs.Sized.{front, after, plain, bits_after, within_size, at_most_4096}
+use Rattle.icl_declarations.specs.Sized.{front, after, normalized_digits, based_number_bits, within_size}
+use Rattle.icl_declarations.specs.Sized.{at_most_4096}
 
 -- ---- integers
 
@@ -65,7 +66,8 @@ number_of_size at (Some bits) None = told at false (at_most_4096 bits)
 number_of_size at (Some bits) (Some n) = told at true (within_size n bits)
 
 unfoldable pub sized_number : Params → Place → List ℕ → Answer ParamValue
-sized_number ps at text = size_of ps at (front text) >>= number_of_size at (bits_after (plain (after text)))
+sized_number ps at text = size_of ps at (front text) >>= number_of_size at (based_number_bits
+    (normalized_digits (after text)))
 
 -- ---- operators
 
@@ -85,12 +87,12 @@ operate at Rest a b = undivided at b (a % b)
 -- ---- expressions
 
 -- where a fault of an expression's own value is
-abbrev pub place_in : Place → SeenExpr → Place
-place_in holder (ADecimal n) = holder
-place_in holder (ASized text) = holder
-place_in holder (AQuoted text) = holder
-place_in holder (AParam at name) = at
-place_in holder (AnOp at sign a b) = holder
+abbrev pub fault_place : Place → SeenExpr → Place
+fault_place holder (ADecimal n) = holder
+fault_place holder (ASized text) = holder
+fault_place holder (AQuoted text) = holder
+fault_place holder (AParam at name) = at
+fault_place holder (AnOp at sign a b) = holder
 
 unfoldable pub evaluate : Params → Place → SeenExpr → Answer ParamValue
 evaluate ps holder (ADecimal n) = Ok (AnInteger n)
@@ -98,11 +100,11 @@ evaluate ps holder (ASized text) = sized_number ps holder text
 evaluate ps holder (AQuoted text) = Ok (AText text)
 evaluate ps holder (AParam at name) = parameter ps at name
 evaluate ps holder (AnOp at sign a b) = do
-  left ← evaluate ps holder a >>= as_integer (place_in holder a)
-  right ← evaluate ps holder b >>= as_integer (place_in holder b)
+  left ← evaluate ps holder a >>= as_integer (fault_place holder a)
+  right ← evaluate ps holder b >>= as_integer (fault_place holder b)
   n ← operate at sign left right
   Ok (AnInteger n)
 
 -- an expression where an integer is wanted
 abbrev pub integer : Params → Place → SeenExpr → Answer ℕ
-integer ps holder e = evaluate ps holder e >>= as_integer (place_in holder e)
+integer ps holder e = evaluate ps holder e >>= as_integer (fault_place holder e)

@@ -17,6 +17,6 @@ abbrev pub distinct : Place → List (List ℕ) → Answer (Unit {0})
 distinct at names = over (with_name at) [] names >>= λ all. Ok tt
 
 -- the item's own name, then those in it
-abbrev pub new_names : List SeenItem → SeenItem → Answer (Unit {0})
-new_names before item = refuse_if (is_taken before item) (DoubleName item.at item.name)
+abbrev pub check_item_names : List SeenItem → SeenItem → Answer (Unit {0})
+check_item_names before item = refuse_if (is_taken before item) (DoubleName item.at item.name)
     >>= λ u. distinct item.at (inner_names item.what)

@@ -160,15 +160,15 @@ has_parameter test block name =
     list_any (λ item. is_parameter_that test item.what && bytes_eq name item.name) block.items
 
 -- a parameter that an instance may bind: not a local one
-abbrev pub is_open : SeenModule → List ℕ → Bool
-is_open block name = has_parameter (same_bit false) block name && not
+abbrev pub is_bindable : SeenModule → List ℕ → Bool
+is_bindable block name = has_parameter (same_bit false) block name && not
     (has_parameter (same_bit true) block name)
 
 -- ---- instruments
 
 -- what an instrument may not have: scan ports, registers, multiplexers, instances, and sources of its own
-abbrev pub is_not_of_instrument : SeenWhat → Bool
-is_not_of_instrument what =
+abbrev pub is_barred_in_instrument : SeenWhat → Bool
+is_barred_in_instrument what =
     port_that (λ kind. is_scan_in kind || is_scan_out kind) what || is_register what || is_mux what ||
     is_child what || (port_that is_data_out what && has_source what)
 
@@ -178,4 +178,4 @@ is_data_port what = port_that (λ kind. is_data_in kind || is_data_out kind) wha
 -- a module whose instances are instruments: data ports alone join them to the network
 abbrev pub is_instrument : SeenModule → Bool
 is_instrument block = list_any (λ item. is_data_port item.what) block.items && not
-    (list_any (λ item. is_not_of_instrument item.what) block.items)
+    (list_any (λ item. is_barred_in_instrument item.what) block.items)

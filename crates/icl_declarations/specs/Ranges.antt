@@ -65,6 +65,6 @@ position_range at b i = cond (runs_along b i)
     (Ok (record { low = position_of b i.right; high = position_of b i.left })) (Err (BadRange at))
 
 -- the positions that a reference with this range names, and all without a range
-abbrev pub named_in : Params → Bounds → Option SeenRange → Answer Stretch
-named_in ps b None = Ok (whole b)
-named_in ps b (Some r) = indices ps r >>= position_range r.at b
+abbrev pub named_positions : Params → Bounds → Option SeenRange → Answer Stretch
+named_positions ps b None = Ok (whole b)
+named_positions ps b (Some r) = indices ps r >>= position_range r.at b

@@ -20,8 +20,8 @@ after [] = []
 after (b ∷ bs) = cond (b == 39) bs (after bs)
 
 -- without `_` (95), and in lower case
-abbrev pub plain : List ℕ → List ℕ
-plain text = map to_ascii_lowercase (filter (λ b. not (b == 95)) text)
+abbrev pub normalized_digits : List ℕ → List ℕ
+normalized_digits text = map to_ascii_lowercase (filter (λ b. not (b == 95)) text)
 
 -- ---- digits
 
@@ -58,9 +58,9 @@ base_bits base digits =
     (cond (base == 104) (cond (list_all is_hexadecimal digits) (Some (digits_bits hex_digit digits)) None)
     (cond (base == 100) (decimal_bits digits) None))
 
-abbrev pub bits_after : List ℕ → Option OpenBits
-bits_after [] = None
-bits_after (base ∷ digits) = base_bits base digits
+abbrev pub based_number_bits : List ℕ → Option OpenBits
+based_number_bits [] = None
+based_number_bits (base ∷ digits) = base_bits base digits
 
 -- ---- widths
 

@@ -7,7 +7,7 @@ use Rattle.icl_declarations.specs.Faults.{Answer, ◌>>=◌, each, WidthDiffers,
 use Rattle.icl_declarations.specs.Values.{OpenBits, ParamValue, AnInteger, SomeBits, AText, Params}
 use Rattle.icl_declarations.specs.Values.{integer_bits}
 use Rattle.icl_declarations.specs.Sized.{fits, in_width}
-use Rattle.icl_declarations.specs.Expressions.{evaluate, place_in}
+use Rattle.icl_declarations.specs.Expressions.{evaluate, fault_place}
 
 -- a number without a size: zeros are added or dropped on the left
 abbrev pub fit_unsized : Place → ℕ → OpenBits → Answer OpenBits
@@ -26,14 +26,14 @@ fit_number holder at width (SomeBits true bits) = fit_sized holder width bits
 fit_number holder at width (AText text) = Err (WrongKind at)
 
 -- a number of a concatenation needs a size
-abbrev pub part_of : Place → ParamValue → Answer OpenBits
-part_of at (AnInteger n) = Err (WrongKind at)
-part_of at (SomeBits false bits) = Err (WrongKind at)
-part_of at (SomeBits true bits) = Ok bits
-part_of at (AText text) = Err (WrongKind at)
+abbrev pub sized_bits : Place → ParamValue → Answer OpenBits
+sized_bits at (AnInteger n) = Err (WrongKind at)
+sized_bits at (SomeBits false bits) = Err (WrongKind at)
+sized_bits at (SomeBits true bits) = Ok bits
+sized_bits at (AText text) = Err (WrongKind at)
 
 abbrev pub one_part : Params → Place → SeenExpr → Answer OpenBits
-one_part ps holder e = evaluate ps holder e >>= part_of (place_in holder e)
+one_part ps holder e = evaluate ps holder e >>= sized_bits (fault_place holder e)
 
 -- a concatenation begins at the left, so its last part has position 0
 abbrev pub joined : {A : Type 0} → List (List A) → List A
@@ -41,7 +41,7 @@ joined [] = []
 joined (part ∷ parts) = joined parts ++ part
 
 abbrev pub lone_value : Params → Place → ℕ → SeenExpr → Answer OpenBits
-lone_value ps holder width e = evaluate ps holder e >>= fit_number holder (place_in holder e) width
+lone_value ps holder width e = evaluate ps holder e >>= fit_number holder (fault_place holder e) width
 
 abbrev pub parts_value : Params → Place → ℕ → List SeenExpr → Answer OpenBits
 parts_value ps holder width es = each (one_part ps holder) es

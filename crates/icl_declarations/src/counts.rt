@@ -4,7 +4,8 @@ ghost use Rattle.std.specs.List.{list_any};
 ghost use Rattle.ij_text.specs.Options.{same};
 ghost use Rattle.icl_lexer.specs.Views.{seen_what, seen_prop, seen_item, seen_module};
 ghost use Rattle.icl_declarations.specs.Faults.{Gives};
-ghost use Rattle.icl_declarations.specs.Parts.{is_source, is_data_port, is_not_of_instrument, is_instrument};
+ghost use Rattle.icl_declarations.specs.Parts.{is_source, is_data_port, is_barred_in_instrument};
+ghost use Rattle.icl_declarations.specs.Parts.{is_instrument};
 ghost use Rattle.icl_declarations.specs.Parts.{is_part, port_that, is_data_in, is_data_out};
 ghost use Rattle.icl_declarations.specs.Ranges.{width};
 ghost use Rattle.icl_declarations.specs.Counting.{count_part, count_instrument, has_wide_port};
@@ -92,8 +93,8 @@ pub fn is_data_port(what: &What) -> bool
 }
 
 /// What an instrument may not have.
-fn is_not_of_instrument(what: &What) -> bool
-    ensures { result ≡ is_not_of_instrument (seen_what what.now) }
+fn is_barred_in_instrument(what: &What) -> bool
+    ensures { result ≡ is_barred_in_instrument (seen_what what.now) }
 {
     match what {
         What::Port { kind, props, .. } => match kind {
@@ -117,11 +118,11 @@ fn has_data_port(items: &[Item]) -> bool
     false
 }
 
-fn has_more(items: &[Item]) -> bool
-    ensures { result ≡ list_any (λ item. is_not_of_instrument item.what) (map seen_item items.now) }
+fn has_barred_in_instrument(items: &[Item]) -> bool
+    ensures { result ≡ list_any (λ item. is_barred_in_instrument item.what) (map seen_item items.now) }
 {
     for item in items {
-        if is_not_of_instrument(&item.what) {
+        if is_barred_in_instrument(&item.what) {
             return true;
         }
     }
@@ -132,7 +133,7 @@ fn has_more(items: &[Item]) -> bool
 pub fn is_instrument(block: &Module) -> bool
     ensures { result ≡ is_instrument (seen_module block.now) }
 {
-    has_data_port(block.items.as_slice()) && !has_more(block.items.as_slice())
+    has_data_port(block.items.as_slice()) && !has_barred_in_instrument(block.items.as_slice())
 }
 
 /// Whether a module has more than 16 data inputs.

@@ -3,9 +3,10 @@ ghost use Rattle.std.specs.Prelude.{◌≡◌, ◌+◌, ◌*◌, ◌^◌, ◌<�
 ghost use Rattle.std.specs.Prelude.{◌==◌, ◌/◌, ◌%◌};
 ghost use Rattle.std.specs.List.{list_all};
 ghost use Rattle.icl_declarations.specs.Values.{number_bits};
-ghost use Rattle.icl_declarations.specs.Sized.{base_bits, after, binary_digit, bits_after, decimal_bits};
+ghost use Rattle.icl_declarations.specs.Sized.{base_bits, after, binary_digit, based_number_bits};
+ghost use Rattle.icl_declarations.specs.Sized.{decimal_bits};
 ghost use Rattle.icl_declarations.specs.Sized.{digits_bits, front, hex_digit, is_binary, is_hexadecimal};
-ghost use Rattle.icl_declarations.specs.Sized.{plain};
+ghost use Rattle.icl_declarations.specs.Sized.{normalized_digits};
 
 use ij_bits::OutOfMemory;
 use ij_text::{OpenBits, all_digits, decimal, hex_value};
@@ -25,8 +26,8 @@ pub(crate) fn split(text: &[u8]) -> (&[u8], &[u8])
 }
 
 /// A text without `_`, and in lower case.
-pub(crate) fn plain(alloc: Global, text: &[u8]) -> Result<Vec<u8>, OutOfMemory>
-    ensures { IfOk result (λ digits. digits.items ≡ plain text.now) }
+pub(crate) fn normalized_digits(alloc: Global, text: &[u8]) -> Result<Vec<u8>, OutOfMemory>
+    ensures { IfOk result (λ digits. digits.items ≡ normalized_digits text.now) }
 {
     let mut digits = Vec::new(alloc);
     for b in text {
@@ -178,8 +179,8 @@ fn base_bits(alloc: Global, base: u8, digits: &[u8]) -> Result<Option<OpenBits>,
 }
 
 /// The bits of a base and its digits, if they suit it.
-pub(crate) fn bits_after(alloc: Global, text: &[u8]) -> Result<Option<OpenBits>, OutOfMemory>
-    ensures { IfOk result (λ bits. bits ≡ bits_after text.now) }
+pub(crate) fn based_number_bits(alloc: Global, text: &[u8]) -> Result<Option<OpenBits>, OutOfMemory>
+    ensures { IfOk result (λ bits. bits ≡ based_number_bits text.now) }
 {
     match text {
         [base, digits @ ..] => base_bits(alloc, *base, digits),

@@ -5,7 +5,7 @@ ghost use Rattle.icl_lexer.specs.Views.{seen_expr};
 ghost use Rattle.icl_declarations.specs.Faults.{Gives};
 ghost use Rattle.icl_declarations.specs.Values.{seen_value};
 ghost use Rattle.icl_declarations.specs.Tables.{seen_table};
-ghost use Rattle.icl_declarations.specs.Expressions.{operate, place_in, evaluate, integer};
+ghost use Rattle.icl_declarations.specs.Expressions.{operate, fault_place, evaluate, integer};
 
 use crate::fault::ElabFault;
 use crate::integers::as_integer;
@@ -32,8 +32,8 @@ fn operate(at: Place, sign: Sign, a: u32, b: u32) -> Result<u32, ElabFault>
 
 /// Where a fault of an expression's own value is: at a parameter, and otherwise at what holds the
 /// expression.
-pub fn place_in(e: &Expr, holder: Place) -> Place
-    ensures { result ≡ place_in holder (seen_expr e.now) }
+pub fn fault_place(e: &Expr, holder: Place) -> Place
+    ensures { result ≡ fault_place holder (seen_expr e.now) }
 {
     match e {
         Expr::Param(at, _) => *at,
@@ -65,9 +65,9 @@ pub fn evaluate(
         }
         Expr::Op(at, sign, a, b) => {
             let left = evaluate(alloc, params, a, holder)?;
-            let left = as_integer(&left, place_in(a, holder))?;
+            let left = as_integer(&left, fault_place(a, holder))?;
             let right = evaluate(alloc, params, b, holder)?;
-            let right = as_integer(&right, place_in(b, holder))?;
+            let right = as_integer(&right, fault_place(b, holder))?;
             let n = operate(*at, *sign, left, right)?;
             Ok(Value::Integer(n))
         }
@@ -84,5 +84,5 @@ pub fn integer(
     ensures { Gives same result (integer (seen_table params.now) holder (seen_expr e.now)) }
 {
     let value = evaluate(alloc, params, e, holder)?;
-    as_integer(&value, place_in(e, holder))
+    as_integer(&value, fault_place(e, holder))
 }

@@ -3,7 +3,7 @@ ghost use Rattle.std.specs.Prelude.{◌≡◌};
 ghost use Rattle.icl_lexer.specs.Views.{seen_what};
 ghost use Rattle.icl_declarations.specs.Parts.{is_scan_in, is_scan_out, is_data_in, is_data_out};
 ghost use Rattle.icl_declarations.specs.Parts.{is_control_in, is_input, is_register, is_mux, is_child};
-ghost use Rattle.icl_declarations.specs.Parts.{is_signal, is_interface, is_link, is_enum, is_parameter};
+ghost use Rattle.icl_declarations.specs.Parts.{is_signal, is_interface, is_link, is_enum};
 ghost use Rattle.icl_declarations.specs.Parts.{is_part, port_that};
 
 use icl_lexer::{PortKind, What};
@@ -144,13 +144,6 @@ pub fn is_enum(what: &What) -> bool
     ensures { result ≡ is_enum (seen_what what.now) }
 {
     matches!(what, What::Words { .. })
-}
-
-/// A `Parameter`, or a `LocalParameter`.
-pub fn is_parameter(what: &What) -> bool
-    ensures { result ≡ is_parameter (seen_what what.now) }
-{
-    matches!(what, What::Parameter { .. })
 }
 
 /// A part of a cell.

@@ -23,15 +23,15 @@ mod value;
 mod widths;
 
 pub use counts::{Counts, count_instrument, count_part, is_data_port, is_instrument};
-pub use expressions::{evaluate, integer, place_in};
+pub use expressions::{evaluate, fault_place, integer};
 pub use fault::ElabFault;
 pub use kinds::{
     is_child, is_data_in_port, is_data_out_port, is_enum, is_input, is_interface, is_link, is_mux,
     is_part, is_register, is_scan_in_port, is_scan_out, is_signal,
 };
-pub use naming::new_names;
+pub use naming::check_item_names;
 pub use params::ParamTable;
-pub use ranges::{Bounds, Stretch, declared, indices, named_in, width};
+pub use ranges::{Bounds, Stretch, declared, indices, named_positions, width};
 pub use scope::Scope;
 pub use taken::Taken;
 pub use value::Value;

@@ -6,7 +6,7 @@ ghost use Rattle.icl_lexer.specs.Values.{SeenItem};
 ghost use Rattle.icl_lexer.specs.Views.{seen_item, seen_what};
 ghost use Rattle.icl_declarations.specs.Faults.{DoubleName, Gives, refuse_if};
 ghost use Rattle.icl_declarations.specs.Parts.{inner_names};
-ghost use Rattle.icl_declarations.specs.Naming.{distinct, new_names};
+ghost use Rattle.icl_declarations.specs.Naming.{distinct, check_item_names};
 ghost use Rattle.icl_declarations.specs.Taken.{AreTaken, has_entry};
 
 use crate::fault::ElabFault;
@@ -30,8 +30,8 @@ fn add_name(alloc: Global, at: Place, seen: &mut Scope, name: &[u8]) -> Result<(
     Ok(())
 }
 
-/// The words of an enumeration, which differ among themselves.
-fn distinct_words(alloc: Global, at: Place, words: &[EnumWord]) -> Result<(), ElabFault>
+/// Checks that the words of an enumeration differ among themselves.
+fn check_words_differ(alloc: Global, at: Place, words: &[EnumWord]) -> Result<(), ElabFault>
     ensures { Gives same result (distinct at (map (λ w. w.name.items) words.now)) }
 {
     let mut seen = Scope::new(alloc);
@@ -41,8 +41,8 @@ fn distinct_words(alloc: Global, at: Place, words: &[EnumWord]) -> Result<(), El
     Ok(())
 }
 
-/// The instructions of a link, which differ among themselves.
-fn distinct_instrs(alloc: Global, at: Place, instrs: &[LinkInstr]) -> Result<(), ElabFault>
+/// Checks that the instructions of a link differ among themselves.
+fn check_instrs_differ(alloc: Global, at: Place, instrs: &[LinkInstr]) -> Result<(), ElabFault>
     ensures { Gives same result (distinct at (map (λ i. i.name.items) instrs.now)) }
 {
     let mut seen = Scope::new(alloc);
@@ -52,25 +52,25 @@ fn distinct_instrs(alloc: Global, at: Place, instrs: &[LinkInstr]) -> Result<(),
     Ok(())
 }
 
-/// The names in an item, which differ among themselves.
-fn distinct_inside(alloc: Global, item: &Item) -> Result<(), ElabFault>
+/// Checks that the names in an item differ among themselves.
+fn check_inner_names(alloc: Global, item: &Item) -> Result<(), ElabFault>
     ensures { Gives same result (distinct item.now.at (inner_names (seen_what item.now.what))) }
 {
     match &item.what {
-        What::Words { words } => distinct_words(alloc, item.at, words.as_slice()),
-        What::Link { instrs, .. } => distinct_instrs(alloc, item.at, instrs.as_slice()),
+        What::Words { words } => check_words_differ(alloc, item.at, words.as_slice()),
+        What::Link { instrs, .. } => check_instrs_differ(alloc, item.at, instrs.as_slice()),
         _ => Ok(()),
     }
 }
 
 /// The name of an item, which isn't taken, and those in it.
-pub fn new_names(alloc: Global, taken: &Taken, item: &Item) -> Result<(), ElabFault>
+pub fn check_item_names(alloc: Global, taken: &Taken, item: &Item) -> Result<(), ElabFault>
     ensures { (items : List SeenItem) → AreTaken taken.now items
-        → Gives same result (new_names items (seen_item item.now)) }
+        → Gives same result (check_item_names items (seen_item item.now)) }
 {
     if taken.has(item) {
         let name = name_of(alloc, item.name.as_slice())?;
         return Err(ElabFault::DoubleName { at: item.at, name });
     }
-    distinct_inside(alloc, item)
+    check_inner_names(alloc, item)
 }

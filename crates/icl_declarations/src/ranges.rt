@@ -6,7 +6,7 @@ ghost use Rattle.icl_lexer.specs.Views.{seen_expr, seen_range};
 ghost use Rattle.icl_declarations.specs.Faults.{Gives};
 ghost use Rattle.icl_declarations.specs.Tables.{seen_table};
 ghost use Rattle.icl_declarations.specs.Ranges.{has_index, position_of, right_end, indices, check_width};
-ghost use Rattle.icl_declarations.specs.Ranges.{declared, position_range, named_in, width};
+ghost use Rattle.icl_declarations.specs.Ranges.{declared, position_range, named_positions, width};
 
 use crate::expressions::integer;
 use crate::fault::ElabFault;
@@ -119,13 +119,13 @@ fn position_range(at: Place, b: Bounds, i: Bounds) -> Result<Stretch, ElabFault>
 }
 
 /// The positions that a reference names of a declaration with these indices: all without a range.
-pub fn named_in(
+pub fn named_positions(
     alloc: Global,
     params: &ParamTable,
     b: Bounds,
     range: &Option<Range>,
 ) -> Result<Stretch, ElabFault>
-    ensures { Gives same result (named_in (seen_table params.now) b (option_map seen_range range.now)) }
+    ensures { Gives same result (named_positions (seen_table params.now) b (option_map seen_range range.now)) }
 {
     match range {
         Some(r) => {

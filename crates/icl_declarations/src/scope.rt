@@ -67,7 +67,7 @@ impl Scope {
     }
 
     /// Adds an item, before which this many parts stand, and answers how many stand after it.
-    fn pass(&mut self, alloc: Global, item: &Item, part: u32) -> Result<u32, OutOfMemory>
+    fn note_item(&mut self, alloc: Global, item: &Item, part: u32) -> Result<u32, OutOfMemory>
         requires { part + 1 < 2 ^ 32 }
         ensures few { IfOk result (λ next. next ≤ part + 1) }
         ensures goes_on { IfOk result (λ next. GoesOn self.old self.new part next (seen_item item.now)) }
@@ -92,7 +92,7 @@ impl Scope {
         };
         let mut part = 0;
         for item in items {
-            part = scope.pass(alloc, item, part)?;
+            part = scope.note_item(alloc, item, part)?;
         }
         Ok(scope)
     }

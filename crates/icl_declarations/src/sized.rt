@@ -8,9 +8,9 @@ ghost use Rattle.icl_declarations.specs.Values.{seen_value};
 ghost use Rattle.icl_declarations.specs.Tables.{seen_table};
 ghost use Rattle.icl_declarations.specs.Expressions.{as_integer, parameter, parameter_size, size, size_of};
 ghost use Rattle.icl_declarations.specs.Expressions.{told, number_of_size, sized_number};
-ghost use Rattle.icl_declarations.specs.Sized.{bits_after, plain};
+ghost use Rattle.icl_declarations.specs.Sized.{based_number_bits, normalized_digits};
 
-use crate::digits::{bits_after, plain, split};
+use crate::digits::{based_number_bits, normalized_digits, split};
 use crate::fault::ElabFault;
 use crate::fitting::{at_most_4096, fitted};
 use crate::integers::as_integer;
@@ -126,11 +126,11 @@ fn number_of_size(
 
 /// The bits of a base and its digits, if they suit it.
 fn open_digits(alloc: Global, text: &[u8]) -> Result<Option<Tern>, ElabFault>
-    ensures bits { IfOk result (λ bits. option_map tern_bits bits ≡ bits_after (plain text.now)) }
+    ensures bits { IfOk result (λ bits. option_map tern_bits bits ≡ based_number_bits (normalized_digits text.now)) }
     ensures told { IfErr result (λ e. e ≡ ElabFault.OutOfMemory) }
 {
-    let digits = plain(alloc, text)?;
-    match bits_after(alloc, &digits)? {
+    let digits = normalized_digits(alloc, text)?;
+    match based_number_bits(alloc, &digits)? {
         Some(bits) => Ok(Some(bits.into_tern())),
         None => Ok(None),
     }

@@ -35,7 +35,7 @@ impl Taken {
     }
 
     /// Adds the name of an item. After want of memory the names are as they were.
-    pub fn pass(&mut self, alloc: Global, item: &Item) -> Result<(), OutOfMemory>
+    pub fn note_item(&mut self, alloc: Global, item: &Item) -> Result<(), OutOfMemory>
         ensures ok { OnOk result (IsOneMore self.old self.new (seen_item item.now)) }
         ensures err { OnErr result (AreStill self.old self.new) }
     {

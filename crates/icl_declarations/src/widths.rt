@@ -5,13 +5,13 @@ ghost use Rattle.icl_lexer.specs.Views.{seen_expr};
 ghost use Rattle.icl_declarations.specs.Faults.{Gives, each};
 ghost use Rattle.icl_declarations.specs.Values.{seen_value, number_bits};
 ghost use Rattle.icl_declarations.specs.Tables.{seen_table};
-ghost use Rattle.icl_declarations.specs.Expressions.{evaluate, place_in};
-ghost use Rattle.icl_declarations.specs.Widths.{fit_unsized, fit_sized, fit_number, part_of, one_part};
+ghost use Rattle.icl_declarations.specs.Expressions.{evaluate, fault_place};
+ghost use Rattle.icl_declarations.specs.Widths.{fit_unsized, fit_sized, fit_number, sized_bits, one_part};
 ghost use Rattle.icl_declarations.specs.Widths.{joined};
 ghost use Rattle.icl_declarations.specs.Widths.{lone_value, parts_value, value_in};
 
 use crate::digits::number_bits;
-use crate::expressions::{evaluate, place_in};
+use crate::expressions::{evaluate, fault_place};
 use crate::fault::ElabFault;
 use crate::fitting::fitted;
 use crate::params::ParamTable;
@@ -82,8 +82,8 @@ fn fit_number(
 }
 
 /// A number of a concatenation.
-fn part_of(value: Value, at: Place) -> Result<Tern, ElabFault>
-    ensures { Gives tern_bits result (part_of at (seen_value value)) }
+fn sized_bits(value: Value, at: Place) -> Result<Tern, ElabFault>
+    ensures { Gives tern_bits result (sized_bits at (seen_value value)) }
 {
     match value {
         Value::Bits { sized, bits } => {
@@ -102,7 +102,7 @@ fn one_part(alloc: Global, params: &ParamTable, e: &Expr, holder: Place) -> Resu
     ensures { Gives tern_bits result (one_part (seen_table params.now) holder (seen_expr e.now)) }
 {
     let value = evaluate(alloc, params, e, holder)?;
-    part_of(value, place_in(e, holder))
+    sized_bits(value, fault_place(e, holder))
 }
 
 /// The parts of a concatenation, the leftmost first.
@@ -189,7 +189,7 @@ fn lone_value(
     ensures { Gives tern_bits result (lone_value (seen_table params.now) holder width (seen_expr e.now)) }
 {
     let value = evaluate(alloc, params, e, holder)?;
-    fit_number(alloc, value, width, holder, place_in(e, holder))
+    fit_number(alloc, value, width, holder, fault_place(e, holder))
 }
 
 /// A concatenation in a width.

@@ -6,7 +6,7 @@ use Rattle.icl_lexer.specs.Values.{SeenRange, SeenSig, ABoundPort}
 use Rattle.icl_declarations.specs.Faults.{◌>>=◌, refuse_if, DoubleName, WrongKind}
 use Rattle.icl_frames.specs.FirstPass.{Frame}
 use Rattle.icl_declarations.specs.Parts.{is_input, port_that}
-use Rattle.icl_declarations.specs.Ranges.{positions, named_in}
+use Rattle.icl_declarations.specs.Ranges.{positions, named_positions}
 use Rattle.icl_references.specs.Names.{Here, named}
 use Rattle.icl_elab.specs.Bindings.{Bound, is_bound, bound_refs, bind}
 use Rattle.icl_elab.specs.Marks.{bound_in}
@@ -20,7 +20,7 @@ unfolding bind bound_in
 bind_parts frames here child bs at name range ss =
     after (named child at name) _ _ (λ b. Ok (bs ++ b ∷ []))
     (λ m. after (refuse_if (not (port_that is_input m.item.what)) (WrongKind at)) _ _ (λ b. Ok (bs ++ b ∷ []))
-    (λ u. after (named_in here.frame.params m.bounds range) _ _ (λ b. Ok (bs ++ b ∷ []))
+    (λ u. after (named_positions here.frame.params m.bounds range) _ _ (λ b. Ok (bs ++ b ∷ []))
     (λ s. after (refuse_if (list_any (is_bound bs m.part) (positions s)) (DoubleName at name)) _ _
     (λ b. Ok (bs ++ b ∷ []))
     (λ v. after (bound_refs frames here child at m.item.what s ss) _ _

@@ -24,7 +24,7 @@ use Rattle.icl_declarations.specs.Parts.{is_port, is_interface}
 use Rattle.icl_declarations.specs.Ranges.{width}
 use Rattle.icl_frames.specs.FirstPass.{Frame, first_pass}
 use Rattle.icl_references.specs.Names.{Here, here_of, Member, members, member_that, known_member, named}
-use Rattle.icl_references.specs.Names.{is_in, is_child_cell, child_cell, known_cell, inside}
+use Rattle.icl_references.specs.Names.{is_in, is_child_cell, child_cell, known_cell, cell_of_instance}
 use Rattle.icl_references.specs.Signals.{data_signals, select_signals, alias_signals, control_signals}
 use Rattle.icl_references.specs.Roles.{Selection, Role, ScanInput, ScanOutput, DataInput, DataOutput}
 use Rattle.icl_references.specs.Roles.{ControlPort, AScanRegister, AScanMux, AnAliasOf, AnInstance}
@@ -92,7 +92,7 @@ known_child frames at cell name h e = by_child (child_cell frames cell name) ref
         subst (IsHereInstance frames cell name) (ok_is (here_of c) h g) (child_is frames cell name c f)
 
 inside_child : (frames : List Frame) (here : Here) (at : Place) (name : List ℕ) (what : SeenWhat) (h : Here)
-    → inside frames here at name what ≡ Ok h → IsHereInstance frames here.number name h
+    → cell_of_instance frames here at name what ≡ Ok h → IsHereInstance frames here.number name h
 inside_child frames here at name (AChild module' binds) h e = known_child frames at here.number name h e
 inside_child frames here at name (APort kind range props) h e = absurd cc
 inside_child frames here at name (ARegister range props) h e = absurd cc
@@ -156,7 +156,7 @@ module _ (frames : List Frame) (here : Here) where
   unfolding instance_frame
   selected_is at i s h =
       let a = both (named here.frame at i.cell) _ s h in
-      let b = both (inside frames here at a.first.item.name a.first.item.what) _ s a.then' in
+      let b = both (cell_of_instance frames here at a.first.item.name a.first.item.what) _ s a.then' in
       let c = both
       (known_member at i.interface (member_that is_interface b.first.frame i.interface)) _ s b.then' in
       subst (IsSelectedFrame frames here.number)
@@ -357,7 +357,7 @@ module _ (frames : List Frame) (here : Here) where
       plain_found m (AMux select rows) f refl refl (subst IsPlainFound (ok_is (found a.first) f a.then')
       (mux_plain m.item.at select rows a.first a.is))
   found_is m (AChild module' binds) f h =
-      let a = both (inside frames here m.item.at m.item.name m.item.what)
+      let a = both (cell_of_instance frames here m.item.at m.item.name m.item.what)
       (instance_found frames here m.item.at binds) f h in
       let b = both (over (bind frames here a.first.frame) [] binds) _ f a.then' in
       let c = both

@@ -22,7 +22,7 @@ use Rattle.icl_declarations.specs.Parts.{is_mux as is_mux_item, is_not_of_instru
 use Rattle.icl_declarations.specs.Ranges.{width}
 use Rattle.icl_frames.specs.FirstPass.{Frame}
 use Rattle.icl_frames.proofs.Answering.{both, ok_is, over_all}
-use Rattle.icl_references.specs.Names.{Here, Member, members, inside}
+use Rattle.icl_references.specs.Names.{Here, Member, members, cell_of_instance}
 use Rattle.icl_references.specs.Signals.{data_signals, select_signals, alias_signals, control_signals}
 use Rattle.icl_references.specs.Roles.{Role, ScanInput, ScanOutput, DataInput, DataOutput, ControlPort}
 use Rattle.icl_references.specs.Roles.{AScanRegister, AScanMux, AnAliasOf, AnInstance, AnInterfaceOf}
@@ -219,7 +219,7 @@ module _ (frames : List Frame) (here : Here) where
       (refl, refl, refl, refl, refl, refl, λ t. refl) in
       subst (λ (x : Found). IsOfKind (AMux select rows) x.role) (ok_is (found a.first) f a.then') e
   kind_found m (AChild module' binds) f h =
-      let a = both (inside frames here m.item.at m.item.name m.item.what)
+      let a = both (cell_of_instance frames here m.item.at m.item.name m.item.what)
       (instance_found frames here m.item.at binds) f h in
       let b = both (over (bind frames here a.first.frame) [] binds) _ f a.then' in
       let c = both

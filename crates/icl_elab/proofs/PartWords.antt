@@ -18,18 +18,18 @@ use Rattle.icl_lexer.specs.Values.{ALink, AnAttribute, SeenItem}
 use Rattle.icl_declarations.specs.Faults.{Answer, ◌>>=◌, refuse_if, each, over, BadRange, WrongKind}
 use Rattle.icl_declarations.specs.Faults.{RowsOverlap}
 use Rattle.icl_declarations.specs.Values.{OpenBits, ParamValue, AnInteger, SomeBits, AText, Params}
-use Rattle.icl_declarations.specs.Expressions.{evaluate, place_in}
+use Rattle.icl_declarations.specs.Expressions.{evaluate, fault_place}
 use Rattle.icl_declarations.specs.Widths.{value_in, joined}
 use Rattle.icl_declarations.specs.declared.ranges.Bounds.{Bounds}
 use Rattle.icl_declarations.specs.declared.ranges.Stretch.{Stretch}
 use Rattle.icl_declarations.specs.Parts.{inner_names, words_in, is_mux as is_mux_item}
 use Rattle.icl_declarations.specs.Ranges.{width, position_of, has_index, runs_along, position_range, whole}
-use Rattle.icl_declarations.specs.Ranges.{indices, named_in}
+use Rattle.icl_declarations.specs.Ranges.{indices, named_positions}
 use Rattle.icl_frames.specs.FirstPass.{Frame}
 use Rattle.icl_frames.specs.Written.{IsWrittenWhat}
 use Rattle.icl_frames.proofs.Answering.{both, ok_is, over_all}
 use Rattle.icl_references.specs.declared.hier.Ref.{Ref}
-use Rattle.icl_references.specs.Names.{Here, Member, members, inside, path_from}
+use Rattle.icl_references.specs.Names.{Here, Member, members, cell_of_instance, path_from}
 use Rattle.icl_references.specs.Signals.{bits_of, is_data_source, data_signal, data_signals, data_meant}
 use Rattle.icl_references.specs.Signals.{data_path, select_signals, alias_signals, constants, closed}
 use Rattle.icl_references.specs.Signals.{free_number, number_bits, scan_signal}
@@ -193,7 +193,7 @@ module _ (frames : List Frame) (here : Here) (inner : HasInner here.frame) where
       let a = both (mux_role frames here m.item.at select rows) _ f h in
       subst IsWorded (ok_is (found a.first) f a.then') tt
   found_worded m (AChild module' binds) f h =
-      let a = both (inside frames here m.item.at m.item.name m.item.what)
+      let a = both (cell_of_instance frames here m.item.at m.item.name m.item.what)
       (instance_found frames here m.item.at binds) f h in
       let b = both (over (bind frames here a.first.frame) [] binds) _ f a.then' in
       let c = both
@@ -238,7 +238,7 @@ stretch_long at b i s h = by_test (runs_along b i) refl h
     by_test false e g = absurd cc
 
 named_long : (ps : Params) (b : Bounds) (range : Option SeenRange) (s : Stretch)
-    → named_in ps b range ≡ Ok s → IsLong s
+    → named_positions ps b range ≡ Ok s → IsLong s
 named_long ps b None s h = let z : 0 ≤ width b - 1 = omega arith in subst IsLong (ok_is (whole b) s h) z
 named_long ps b (Some r) s h =
     let a = both (indices ps r) (position_range r.at b) s h in stretch_long r.at b a.first s a.then'
@@ -263,7 +263,7 @@ module _ (frames : List Frame) (here : Here) (sound : AreSound here.frame.params
       let a = both (path_from frames here at path) _ rs h in
       let b = both
       (refuse_if (not (is_data_source path a.first.member.item.what)) (WrongKind at)) _ rs a.then' in
-      let c = both (named_in here.frame.params a.first.member.bounds range) _ rs b.then' in
+      let c = both (named_positions here.frame.params a.first.member.bounds range) _ rs b.then' in
       let long = named_long here.frame.params a.first.member.bounds range c.first c.is in
       let e : length (bits_of a.first inverted c.first) ≡ c.first.high + 1 - c.first.low =
       length-map-range_with_len _ c.first.low (c.first.high + 1 - c.first.low) in
@@ -279,8 +279,8 @@ module _ (frames : List Frame) (here : Here) (sound : AreSound here.frame.params
           → data_meant frames here holder None s.at s.inverted w ≡ Ok rs → 1 ≤ length rs
       by_meant (ANumber e) g =
           let a = both (evaluate here.frame.params s.at e) _ rs g in
-          let b = both (number_bits holder (place_in s.at e) None a.first) _ rs a.then' in
-          let long = number_long holder (place_in s.at e) a.first b.first
+          let b = both (number_bits holder (fault_place s.at e) None a.first) _ rs a.then' in
+          let long = number_long holder (fault_place s.at e) a.first b.first
           (evaluate_sound here.frame.params s.at e a.first sound a.is) b.is in
           subst (λ (l : List Ref). 1 ≤ length l) (ok_is (constants s.inverted b.first) rs b.then')
           (subst (λ n. 1 ≤ n) (sym (length-map b.first _)) long)

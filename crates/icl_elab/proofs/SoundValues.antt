@@ -15,12 +15,13 @@ use Rattle.icl_lexer.specs.Values.{SeenModule}
 use Rattle.icl_declarations.specs.Faults.{Answer, ◌>>=◌, refuse_if, NoName, DoubleName, BadNumber}
 use Rattle.icl_declarations.specs.Values.{OpenBits, ParamValue, AnInteger, SomeBits, AText, Given, Params}
 use Rattle.icl_declarations.specs.Values.{param_value, with_param}
-use Rattle.icl_declarations.specs.Sized.{front, after, plain, bits_after, fits, in_width, within_size}
+use Rattle.icl_declarations.specs.Sized.{front, after, normalized_digits, based_number_bits, fits, in_width}
+use Rattle.icl_declarations.specs.Sized.{within_size}
 use Rattle.icl_declarations.specs.Sized.{at_most_4096}
 use Rattle.icl_declarations.specs.Expressions.{as_integer, known, parameter, size, parameter_size, size_of}
-use Rattle.icl_declarations.specs.Expressions.{told, number_of_size, sized_number, operate, place_in}
+use Rattle.icl_declarations.specs.Expressions.{told, number_of_size, sized_number, operate, fault_place}
 use Rattle.icl_declarations.specs.Expressions.{evaluate}
-use Rattle.icl_declarations.specs.Parts.{is_open}
+use Rattle.icl_declarations.specs.Parts.{is_bindable}
 use Rattle.icl_frames.specs.FirstPass.{Frame, param_in, bound_value, with_parameter, parameters, with_binding}
 use Rattle.icl_frames.specs.FirstPass.{first_pass}
 use Rattle.icl_frames.specs.Preorder.{Declared, OfInstance, AreOfChildren, AreOfInstance, children_of}
@@ -120,15 +121,16 @@ pub evaluate_sound : (ps : Params) (at : Place) (e : SeenExpr) (w : ParamValue)
 unfolding evaluate sized_number
 evaluate_sound ps at (ADecimal n) w g h = subst IsSound (ok_is (AnInteger n) w h) tt
 evaluate_sound ps at (ASized text) w g h =
-    let a = both (size_of ps at (front text)) (number_of_size at (bits_after (plain (after text)))) w h in
-    number_sound at (bits_after (plain (after text))) a.first w
+    let a = both (size_of ps at (front text)) (number_of_size at (based_number_bits (normalized_digits
+    (after text)))) w h in
+    number_sound at (based_number_bits (normalized_digits (after text))) a.first w
     (size_of_is ps at (front text) a.first a.is) a.then'
 evaluate_sound ps at (AQuoted text) w g h = subst IsSound (ok_is (AText text) w h) tt
 evaluate_sound ps at (AParam place name) w g h =
     known_sound place name (param_value ps name) w (value_found ps name g) h
 evaluate_sound ps at (AnOp place sign x y) w g h =
-    let a = both (evaluate ps at x >>= as_integer (place_in at x)) _ w h in
-    let b = both (evaluate ps at y >>= as_integer (place_in at y)) _ w a.then' in
+    let a = both (evaluate ps at x >>= as_integer (fault_place at x)) _ w h in
+    let b = both (evaluate ps at y >>= as_integer (fault_place at y)) _ w a.then' in
     let c = both (operate place sign a.first b.first) _ w b.then' in
     subst IsSound (ok_is (AnInteger c.first) w c.then') tt
 
@@ -171,7 +173,7 @@ binding_kept : (ps : Params) (block : SeenModule) (given gs : Params) (b : SeenB
     → AreSound ps → AreSound given
     → with_binding ps block given b ≡ Ok gs → AreSound gs
 binding_kept ps block given gs (ABoundParameter at name e) g i h =
-    let a = both (refuse_if (not (is_open block name)) (NoName at name)) _ gs h in
+    let a = both (refuse_if (not (is_bindable block name)) (NoName at name)) _ gs h in
     let b = both (refuse_if (is_some (param_value given name)) (DoubleName at name)) _ gs a.then' in
     let c = both (evaluate ps at e) _ gs b.then' in
     subst AreSound (ok_is (with_param given name c.first) gs c.then')

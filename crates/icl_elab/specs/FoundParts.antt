@@ -17,7 +17,8 @@ use Rattle.icl_references.specs.declared.hier.Ref.{Ref}
 use Rattle.icl_declarations.specs.Parts.{is_enum, is_interface, is_port, words_in}
 use Rattle.icl_declarations.specs.Ranges.{width}
 use Rattle.icl_frames.specs.FirstPass.{Frame}
-use Rattle.icl_references.specs.Names.{Here, Member, members, member_that, known_member, named, inside}
+use Rattle.icl_references.specs.Names.{Here, Member, members, member_that, known_member, named}
+use Rattle.icl_references.specs.Names.{cell_of_instance}
 use Rattle.icl_references.specs.Signals.{scan_signal, data_signals, alias_signals, control_signals}
 use Rattle.icl_references.specs.Roles.{Selection, Role, ScanInput, ScanOutput, DataInput, DataOutput}
 use Rattle.icl_references.specs.Roles.{ControlPort, AScanRegister, AnAliasOf, AnInstance, AnInterfaceOf}
@@ -127,7 +128,7 @@ module _ (frames : List Frame) (here : Here) where
   abbrev pub selection : Place → SeenLinkInstr → Answer Selection
   selection at i = do
     m ← named here.frame at i.cell
-    child ← inside frames here at m.item.name m.item.what
+    child ← cell_of_instance frames here at m.item.name m.item.what
     interface ← known_member at i.interface (member_that is_interface child.frame i.interface)
     Ok (record { name = i.name; cell = child.number; interface = interface.part })
 
@@ -139,7 +140,7 @@ module _ (frames : List Frame) (here : Here) where
       over (register_prop m) nothing_said props >>= λ s. Ok (register_found s)
   found_at m (AMux select rows) = mux_role frames here m.item.at select rows >>= λ role. Ok (found role)
   found_at m (AChild module' binds) =
-      inside frames here m.item.at m.item.name m.item.what >>= instance_found m.item.at binds
+      cell_of_instance frames here m.item.at m.item.name m.item.what >>= instance_found m.item.at binds
   found_at m (AnAlias range sigs props) = alias_signals frames here m.item.at (width m.bounds) sigs
       >>= λ refs. over (alias_prop m) (found (AnAliasOf refs)) props
   found_at m (AnInterface ports) = each (port_number m.item.at) ports

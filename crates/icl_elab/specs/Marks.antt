@@ -8,7 +8,7 @@ use Rattle.ij_text.specs.declared.Place.{Place}
 use Rattle.icl_declarations.specs.Faults.{Answer, ◌>>=◌, refuse_if, DoubleName, WrongKind}
 use Rattle.icl_frames.specs.FirstPass.{Frame}
 use Rattle.icl_declarations.specs.Parts.{is_input, port_that}
-use Rattle.icl_declarations.specs.Ranges.{positions, named_in, width}
+use Rattle.icl_declarations.specs.Ranges.{positions, named_positions, width}
 use Rattle.icl_elab.specs.declared.bindings.Bound.{Bound as BoundAt}
 use Rattle.icl_references.specs.Names.{Here, Member, named}
 use Rattle.icl_references.specs.Tables.{here_at}
@@ -50,7 +50,7 @@ unfoldable pub bound_in : List Frame → Here → Frame → List Bound → Place
 bound_in frames here child bs at name range ss = do
   m ← named child at name
   input ← refuse_if (not (port_that is_input m.item.what)) (WrongKind at)
-  s ← named_in here.frame.params m.bounds range
+  s ← named_positions here.frame.params m.bounds range
   once ← refuse_if (list_any (is_bound bs m.part) (positions s)) (DoubleName at name)
   refs ← bound_refs frames here child at m.item.what s ss
   Ok (record { part = m.part; stretch = s; refs = refs })

@@ -16,7 +16,7 @@ ghost use Rattle.icl_references.specs.Tables.{IsHere, frames_of, here_in, no_fra
 
 use crate::marks::{Row, note};
 use icl_declarations::ElabFault;
-use icl_frames::{Stretch, is_data_in_port, is_input, is_scan_in_port, named_in, width};
+use icl_frames::{Stretch, is_data_in_port, is_input, is_scan_in_port, named_positions, width};
 use icl_lexer::{Bind, Range, Sig, SmallText, What};
 use icl_references::{Member, Ref, Tables, control_signals, data_signals, scan_signal};
 use ij_bits::{Buffer, List, OutOfMemory};
@@ -206,7 +206,7 @@ fn ref_in(bound: &Bound, pos: usize) -> Ref
     }
 }
 
-/// Whether an item is an input port of a kind that passes a test.
+/// Whether an item is an input port.
 fn is_input_port(what: &What) -> bool
     ensures { result ≡ port_that is_input (seen_what what.now) }
 {
@@ -306,7 +306,7 @@ fn bound_in(
     if !is_input_port(&m.item.what) {
         return Err(ElabFault::WrongKind { at });
     }
-    let stretch = named_in(alloc, tables.params(here), m.bounds, range)?;
+    let stretch = named_positions(alloc, tables.params(here), m.bounds, range)?;
     if bindings.binds_some(m.part, stretch) {
         let name = name_of(alloc, name.as_slice())?;
         return Err(ElabFault::DoubleName { at, name });

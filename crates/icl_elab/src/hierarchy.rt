@@ -35,7 +35,7 @@ use std::alloc::Global;
 // ---- where each cell is bound
 
 /// Whether a cell is the parent.
-fn is_in(parent: Option<u32>, cell: u32) -> bool
+fn is_parent(parent: Option<u32>, cell: u32) -> bool
     ensures { result ≡ is_in parent cell }
 {
     match parent {
@@ -52,7 +52,7 @@ fn note_home(tables: &Tables, homes: &mut [Option<usize>], here: u32, child: u32
         (cond (is_in (parent_in (frames_of tables.now) c) here && child == c) (Some part) None) }
 {
     let i = child as usize;
-    if i < homes.len() && homes[i].is_none() && is_in(tables.frame(child).parent, here) {
+    if i < homes.len() && homes[i].is_none() && is_parent(tables.frame(child).parent, here) {
         homes[i] = Some(part);
     }
 }
@@ -473,7 +473,7 @@ fn hierarchy_of(alloc: Global, design: &Design, top: &Name) -> Result<Hier, Elab
 /// that is bound at some of its bits alone is `WidthDiffers` at the instance, after its bindings.
 /// `OutOfMemory` may come at any point.
 ///
-/// The hierarchy of a design that the grammar gave (`icl_frames::designs_are_written`) is well formed.
+/// The hierarchy of a design that the grammar gave (`icl_frames::designs_have_icl_names`) is well formed.
 pub fn elaborate(alloc: Global, design: &Design, top: &Name) -> Result<Hier, ElabFault>
     ensures gives { Gives seen_hier result (hierarchy (seen_design design.now) top.now.items) }
     ensures wired { IfOk result (λ h. AreWired (seen_hier h)) }

@@ -108,7 +108,7 @@ fn selection(
         (selection (frames_of tables.now) (here_in tables.now here) at (seen_instr instr.now)) }
 {
     let m = tables.named(alloc, here, at, instr.cell.as_slice())?;
-    let child = tables.inside(here, at, m.item)?;
+    let child = tables.cell_of_instance(here, at, m.item)?;
     let interface = interface_named(tables.members(child), instr.interface.as_slice());
     let interface = known_interface(alloc, at, &instr.interface, interface)?;
     let name = name_of(alloc, instr.name.as_slice())?;

@@ -42,7 +42,7 @@ fn without_binds(alloc: Global, part: Resolved) -> Found
 }
 
 /// A part that binds nothing and refers to no words.
-fn plain(alloc: Global, body: Body) -> Found
+fn without_binds_or_words(alloc: Global, body: Body) -> Found
     ensures { seen_found result ≡ found (seen_body body) }
 {
     Found {
@@ -97,10 +97,10 @@ pub fn part_found(alloc: Global, tables: &Tables, here: u32, m: &Member) -> Resu
         }
         What::Mux { select, rows } => {
             let body = mux_role(alloc, tables, here, at, select.as_slice(), rows.as_slice())?;
-            Ok(plain(alloc, body))
+            Ok(without_binds_or_words(alloc, body))
         }
         What::Child { binds, .. } => {
-            let child = tables.inside(here, at, m.item)?;
+            let child = tables.cell_of_instance(here, at, m.item)?;
             instance_found(alloc, tables, here, child, at, binds.as_slice())
         }
         What::Alias { sigs, props, .. } => {
@@ -109,12 +109,12 @@ pub fn part_found(alloc: Global, tables: &Tables, here: u32, m: &Member) -> Resu
         }
         What::Interface { ports } => {
             let ports = port_numbers(alloc, tables, here, at, ports.as_slice())?;
-            Ok(plain(alloc, Body::Interface { ports }))
+            Ok(without_binds_or_words(alloc, Body::Interface { ports }))
         }
         What::Link { instrs, .. } => {
             let instrs = selections(alloc, tables, here, at, instrs.as_slice())?;
-            Ok(plain(alloc, Body::Link { instrs }))
+            Ok(without_binds_or_words(alloc, Body::Link { instrs }))
         }
-        _ => Ok(plain(alloc, Body::Control)),
+        _ => Ok(without_binds_or_words(alloc, Body::Control)),
     }
 }

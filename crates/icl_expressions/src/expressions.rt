@@ -16,7 +16,7 @@ use crate::signs::{
 };
 use crate::stop::ReadStop;
 use icl_lexer::{Cursor, Expr, Limit};
-use ij_bits::beside;
+use ij_bits::pair_if_ok;
 use std::alloc::Global;
 
 /// An expression; how many operators its outermost expression has up to here; and whether it is a sized
@@ -81,7 +81,7 @@ fn in_parentheses<'a>(
 {
     let open = read_mark(tokens, b'(')?;
     let inner = sum(alloc, open.rest, depth, used)?;
-    let (inner, close) = beside(inner.value, read_mark(inner.rest, b')'))?;
+    let (inner, close) = pair_if_ok(inner.value, read_mark(inner.rest, b')'))?;
     Ok(Parsed {
         value: Counting {
             expr: inner.expr,
@@ -129,9 +129,9 @@ fn with_factor<'a>(
         with_operand (seen_counting left.entry.value) left.entry.rest) }
 {
     let sign = read_product_sign(left.rest, left.value.used, left.value.lone);
-    let (left, sign) = beside(left.value, sign)?;
+    let (left, sign) = pair_if_ok(left.value, sign)?;
     let right = factor(alloc, sign.rest, depth, false, left.used + 1);
-    let (left, right) = beside(left, right)?;
+    let (left, right) = pair_if_ok(left, right)?;
     joined(alloc, left, sign.value, right)
 }
 
@@ -171,9 +171,9 @@ fn with_product<'a>(
         with_operand (seen_counting left.entry.value) left.entry.rest) }
 {
     let sign = read_sum_sign(left.rest, left.value.used, left.value.lone);
-    let (left, sign) = beside(left.value, sign)?;
+    let (left, sign) = pair_if_ok(left.value, sign)?;
     let right = product(alloc, sign.rest, depth, false, left.used + 1);
-    let (left, right) = beside(left, right)?;
+    let (left, right) = pair_if_ok(left, right)?;
     joined(alloc, left, sign.value, right)
 }
 

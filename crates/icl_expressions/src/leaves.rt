@@ -89,7 +89,7 @@ fn sized_value(
 }
 
 /// An expression that no sized number is.
-fn counted(expr: Expr, used: u32) -> Option<Counting>
+fn unsized_expr(expr: Expr, used: u32) -> Option<Counting>
     ensures { option_map seen_counting result ≡ with_count used (Some (seen_expr expr)) }
 {
     Some(Counting {
@@ -110,16 +110,16 @@ fn leaf_value(
 {
     match t.kind {
         TokenKind::Decimal => match decimal(t.text) {
-            Some(n) => Ok(counted(Expr::Decimal(n), used)),
+            Some(n) => Ok(unsized_expr(Expr::Decimal(n), used)),
             None => Ok(None),
         },
         TokenKind::Param => {
             let name = SmallText::of(alloc, after_first(t.text))?;
-            Ok(counted(Expr::Param(t.at, name), used))
+            Ok(unsized_expr(Expr::Param(t.at, name), used))
         }
         TokenKind::Quoted => {
             let text = SmallText::of(alloc, between_ends(t.text))?;
-            Ok(counted(Expr::Quoted(text), used))
+            Ok(unsized_expr(Expr::Quoted(text), used))
         }
         TokenKind::Sized => sized_value(alloc, t.text, alone, used),
         TokenKind::Word | TokenKind::Mark => Ok(None),

@@ -12,7 +12,7 @@ mod stop;
 pub use leaves::read_decimal;
 pub use parts::{Parted, read_parted};
 pub use reading::{
-    Parsed, before_close, begins_mark, push_parsed, read_mark, read_name, read_word,
+    Parsed, begins_mark, is_next_not_close, push_parsed, read_mark, read_name, read_word,
 };
 pub use signals::{
     maybe_expr_after, maybe_range, read_expr_after, read_sig, read_sigs, read_value,

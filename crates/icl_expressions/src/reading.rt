@@ -62,7 +62,7 @@ pub(crate) fn begins_name(tokens: &Cursor) -> bool
 }
 
 /// Whether a token that isn't a `}` is the next one.
-pub fn before_close(tokens: &Cursor) -> bool
+pub fn is_next_not_close(tokens: &Cursor) -> bool
     ensures { result ≡ begins no_close tokens.now }
 {
     match tokens.first() {

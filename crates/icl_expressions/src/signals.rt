@@ -15,7 +15,7 @@ use crate::parts::{Parted, read_following, read_parted};
 use crate::reading::{Parsed, begins_mark, begins_name, read_mark};
 use crate::stop::ReadStop;
 use icl_lexer::{Cursor, Ends, Expr, Lexeme, OneOrMore, Range, Sig, SigWhat, SmallText};
-use ij_bits::{List, beside};
+use ij_bits::{List, pair_if_ok};
 use ij_text::Place;
 use std::alloc::Global;
 
@@ -80,12 +80,12 @@ fn read_range<'a>(alloc: Global, tokens: Cursor<'a>) -> Result<Parsed<'a, Range>
 {
     let open = read_mark(tokens, b'[')?;
     let left = Expr::read(alloc, open.rest)?;
-    let (left, right) = beside(left.value, maybe_expr_after(alloc, left.rest, b':'))?;
+    let (left, right) = pair_if_ok(left.value, maybe_expr_after(alloc, left.rest, b':'))?;
     let ends = Ends {
         left,
         right: right.value,
     };
-    let (ends, close) = beside(ends, read_mark(right.rest, b']'))?;
+    let (ends, close) = pair_if_ok(ends, read_mark(right.rest, b']'))?;
     Ok(Parsed {
         value: Range {
             at: open.value,

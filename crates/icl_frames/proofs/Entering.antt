@@ -13,10 +13,11 @@ use Rattle.icl_declarations.specs.Parts.{block_named, range_in}
 use Rattle.icl_declarations.specs.Ranges.{declared}
 use Rattle.icl_declarations.specs.declared.counts.Counts.{Counts}
 use Rattle.icl_frames.specs.FirstPass.{Frame, Request, parameters, with_binding, known_block, request, Passed}
-use Rattle.icl_frames.specs.FirstPass.{Added, look_at, with_added, fold_item, nothing_passed, fold_items}
-use Rattle.icl_frames.specs.FirstPass.{finish, Progress, Entered, enter_one, enter, with_block}
+use Rattle.icl_frames.specs.FirstPass.{Added, item_additions, with_added, fold_item, nothing_passed}
+use Rattle.icl_frames.specs.FirstPass.{fold_items}
+use Rattle.icl_frames.specs.FirstPass.{cell_counts, Progress, Entered, enter_one, add_subtree, with_block}
 use Rattle.icl_frames.specs.FirstPass.{nothing_entered, first_pass}
-use Rattle.icl_declarations.specs.Naming.{new_names}
+use Rattle.icl_declarations.specs.Naming.{check_item_names}
 use Rattle.icl_declarations.specs.Counting.{count_part}
 use Rattle.icl_frames.specs.Preorder.{Declared, declared_by, children_of, AreOfChild, AreOfChildren}
 use Rattle.icl_frames.specs.Preorder.{AreOfInstance, FramesArePreorder}
@@ -85,11 +86,11 @@ module _ (blocks : List SeenModule) (above : List (List ℕ)) (ps : Params) wher
     pub wanted : ArePaired (children_of items) s.requests
 
   looked : (before : List SeenItem) (c : Counts) (item : SeenItem) (a : Added)
-      → look_at blocks above ps before c item ≡ Ok a
+      → item_additions blocks above ps before c item ≡ Ok a
       → ArePaired (cons_option (declared_by item.name item.what) []) a.wanted
-  unfolding look_at
+  unfolding item_additions
   looked before c item l h =
-      let a = both (new_names before item) _ l h in
+      let a = both (check_item_names before item) _ l h in
       let b = both (declared ps (range_in item.what)) _ l a.then' in
       let r = both (request blocks above ps item item.what) _ l b.then' in
       let d = both (count_part c b.first item.what) _ l r.then' in
@@ -100,7 +101,7 @@ module _ (blocks : List SeenModule) (above : List (List ℕ)) (ps : Params) wher
       → fold_item blocks above ps s item ≡ Ok t → ArePassed t (items ++ item ∷ [])
   unfolding fold_item
   pass_one s t items item p h =
-      let a = both (look_at blocks above ps s.items s.counts item) _ t h in
+      let a = both (item_additions blocks above ps s.items s.counts item) _ t h in
       let all : ArePaired (children_of items ++ cons_option (declared_by item.name item.what) [])
       (s.requests ++ a.first.wanted) =
       paired_more (IsRequested blocks ps) (children_of items) (cons_option (declared_by item.name item.what)
@@ -147,7 +148,7 @@ unfolding enter_one
 entered blocks above parent c r e h =
     let a = both (parameters r.given r.block) _ e h in
     let b = both (fold_items blocks above a.first c r.block) _ e a.then' in
-    let d = both (finish parent r.block b.first) _ e b.then' in
+    let d = both (cell_counts parent r.block b.first) _ e b.then' in
     subst (IsEntered blocks parent r) (ok_is _ e d.then') (record {
       name = refl;
       parent_is = refl;
@@ -169,9 +170,9 @@ module _ (blocks : List SeenModule) where
 
   children_added : (levels : ℕ) (above : List (List ℕ)) (parent : ℕ) (ps : Params) (ds : List Declared)
       (rs : List Request) (s t : Progress) → Paired (IsRequested blocks ps) ds rs
-      → ((u v : Progress) (r : Request) → enter levels blocks above (Some parent) u r ≡ Ok v
+      → ((u v : Progress) (r : Request) → add_subtree levels blocks above (Some parent) u r ≡ Ok v
       → Adds (Instance levels (length u.frames) (Some parent) r) u v)
-      → over (enter levels blocks above (Some parent)) s rs ≡ Ok t
+      → over (add_subtree levels blocks above (Some parent)) s rs ≡ Ok t
       → Adds (AreOfChildren blocks (AreOfInstance blocks levels) (length s.frames) parent ps ds) s t
   children_added levels above parent ps [] [] s t p each h =
       subst (λ (u : Progress). Adds (λ xs. xs ≡ []) s u) (ok_is s t h)
@@ -183,7 +184,7 @@ module _ (blocks : List SeenModule) where
   children_added levels above parent ps [] (r ∷ rs) s t p each h = absurd p
   children_added levels above parent ps (d ∷ ds) [] s t p each h = absurd p
   children_added levels above parent ps (d ∷ ds) (r ∷ rs) s t p each h =
-      let a = both (enter levels blocks above (Some parent) s r) _ t h in
+      let a = both (add_subtree levels blocks above (Some parent) s r) _ t h in
       let one = each s a.first r a.is in
       let others = children_added levels above parent ps ds rs a.first t p.1 each a.then' in
       let q = p.0 in
@@ -215,8 +216,9 @@ module _ (blocks : List SeenModule) where
       }
 
   instance_added : (levels : ℕ) (above : List (List ℕ)) (parent : Option ℕ) (s t : Progress) (r : Request)
-      → enter levels blocks above parent s r ≡ Ok t → Adds (Instance levels (length s.frames) parent r) s t
-  unfolding enter
+      → add_subtree levels blocks above parent s r ≡ Ok t → Adds (Instance levels (length s.frames) parent
+      r) s t
+  unfolding add_subtree
   instance_added zero above parent s t r h = absurd cc
   instance_added (suc levels) above parent s t r h =
       let a = both (refuse_if (nat_le 8192 (length s.frames)) (Limit Cells 8192)) _ t h in
@@ -247,7 +249,12 @@ unfolding first_pass
 frames_are_preorder blocks top frames h =
     let a = both (over with_block [] blocks) _ frames h in
     let b = both (known_block top (block_named blocks top)) _ frames a.then' in
-    let c = both (enter 65 blocks [] None nothing_entered (record { name = []; block = b.first; given = [] }))
+    let c = both (add_subtree 65 blocks [] None nothing_entered (record {
+      name = [];
+      block = b.first;
+      given
+          = [];
+    }))
     _ frames b.then' in
     let d = instance_added blocks 65 [] None nothing_entered c.first
     (record { name = []; block = b.first; given = [] }) c.is in

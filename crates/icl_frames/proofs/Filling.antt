@@ -20,8 +20,9 @@ use Rattle.icl_declarations.specs.declared.ranges.Bounds.{Bounds}
 use Rattle.icl_declarations.specs.Ranges.{width, one_bit, check_width, indices, declared}
 use Rattle.icl_declarations.specs.Parts.{is_part, is_register, is_mux, is_signal, is_rival, is_taken}
 use Rattle.icl_declarations.specs.Parts.{inner_names, range_in}
-use Rattle.icl_declarations.specs.Naming.{with_name, distinct, new_names}
-use Rattle.icl_frames.specs.FirstPass.{request, Passed, bounds_of, Added, look_at, with_added, fold_item}
+use Rattle.icl_declarations.specs.Naming.{with_name, distinct, check_item_names}
+use Rattle.icl_frames.specs.FirstPass.{request, Passed, bounds_of, Added, item_additions, with_added}
+use Rattle.icl_frames.specs.FirstPass.{fold_item}
 use Rattle.icl_frames.specs.FirstPass.{nothing_passed, fold_items}
 use Rattle.icl_declarations.specs.Counting.{count_part}
 use Rattle.icl_frames.specs.Laws.{register_bits}
@@ -300,10 +301,10 @@ pub record IsLookedAt (ps : Params) (before : List SeenItem) (c : Counts)
 
 module _ (blocks : List SeenModule) (above : List (List ℕ)) (ps : Params) where
   looked : (before : List SeenItem) (c : Counts) (item : SeenItem) (l : Added)
-      → look_at blocks above ps before c item ≡ Ok l → IsLookedAt ps before c item l
-  unfolding look_at
+      → item_additions blocks above ps before c item ≡ Ok l → IsLookedAt ps before c item l
+  unfolding item_additions
   looked before c item l h =
-      let a = both (new_names before item) _ l h in
+      let a = both (check_item_names before item) _ l h in
       let n = both (refuse_if (is_taken before item) (DoubleName item.at item.name)) _ a.first a.is in
       let b = both (declared ps (range_in item.what)) _ l a.then' in
       let r = both (request blocks above ps item item.what) _ l b.then' in
@@ -319,7 +320,7 @@ module _ (blocks : List SeenModule) (above : List (List ℕ)) (ps : Params) wher
       → fold_item blocks above ps s item ≡ Ok t → AreFilled ps c t (items ++ item ∷ [])
   unfolding fold_item
   fill_one c s t items item p h =
-      let a = both (look_at blocks above ps s.items s.counts item) _ t h in
+      let a = both (item_additions blocks above ps s.items s.counts item) _ t h in
       let l = looked s.items s.counts item a.first a.is in
       let parts : parts_among (items ++ item ∷ []) ≡ parts_among items ++ cond (is_part item.what) (item ∷ [])
       [] = filter-append (λ (i : SeenItem). is_part i.what) items (item ∷ []) in

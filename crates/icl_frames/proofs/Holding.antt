@@ -13,8 +13,9 @@ use Rattle.icl_declarations.specs.declared.ranges.Bounds.{Bounds}
 use Rattle.icl_declarations.specs.Ranges.{width}
 use Rattle.icl_declarations.specs.Parts.{port_that, is_data_in, is_data_out, is_data_port, is_instrument}
 use Rattle.icl_declarations.specs.Parts.{block_named, parts_of}
-use Rattle.icl_frames.specs.FirstPass.{Frame, Request, parameters, known_block, Passed, fold_items, finish}
-use Rattle.icl_frames.specs.FirstPass.{Progress, Entered, enter_one, enter, with_block, nothing_entered}
+use Rattle.icl_frames.specs.FirstPass.{Frame, Request, parameters, known_block, Passed, fold_items}
+use Rattle.icl_frames.specs.FirstPass.{cell_counts}
+use Rattle.icl_frames.specs.FirstPass.{Progress, Entered, enter_one, add_subtree, with_block, nothing_entered}
 use Rattle.icl_frames.specs.FirstPass.{first_pass}
 use Rattle.icl_declarations.specs.Counting.{ports_over, has_wide_port, count_instrument}
 use Rattle.icl_frames.specs.Laws.{is_instrument_frame, IsFrame, bits_in, muxes_in, AreFew, FramesAreDeclared}
@@ -103,7 +104,7 @@ unfolding enter_one
 one_cell blocks above parent c r e h =
     let a = both (parameters r.given r.block) _ e h in
     let b = both (fold_items blocks above a.first c r.block) _ e a.then' in
-    let d = both (finish parent r.block b.first) _ e b.then' in
+    let d = both (cell_counts parent r.block b.first) _ e b.then' in
     let f = filled blocks above a.first c r.block b.first b.is in
     let g = finished_so (is_some parent && is_instrument r.block) r.block b.first d.first d.is in
     subst (IsOneCell c) (ok_is _ e d.then') (record {
@@ -156,8 +157,8 @@ one_more s e p room o = record {
 }
 
 held : (levels : ℕ) (blocks : List SeenModule) (above : List (List ℕ)) (parent : Option ℕ) (s t : Progress)
-    (r : Request) → AreHeld s → enter levels blocks above parent s r ≡ Ok t → AreHeld t
-unfolding enter
+    (r : Request) → AreHeld s → add_subtree levels blocks above parent s r ≡ Ok t → AreHeld t
+unfolding add_subtree
 held zero blocks above parent s t r p h = absurd cc
 held (suc levels) blocks above parent s t r p h =
     let a = both (refuse_if (nat_le 8192 (length s.frames)) (Limit Cells 8192)) _ t h in
@@ -165,7 +166,7 @@ held (suc levels) blocks above parent s t r p h =
     let room = leb-false 8192 (length s.frames)
     (not_refused (nat_le 8192 (length s.frames)) (Limit Cells 8192) a.first a.is) in
     let o = one_cell blocks (r.block.name ∷ above) parent s.counts r b.first b.is in
-    over_all (enter levels blocks (r.block.name ∷ above) (Some (length s.frames))) AreHeld
+    over_all (add_subtree levels blocks (r.block.name ∷ above) (Some (length s.frames))) AreHeld
     (λ u v q g k. held levels blocks (r.block.name ∷ above) (Some (length s.frames)) u v q g k)
     (record { frames = s.frames ++ b.first.frame ∷ []; counts = b.first.counts }) t b.first.requests
     (one_more s b.first p room o) b.then'
@@ -176,7 +177,12 @@ unfolding first_pass
 all_held blocks top frames h =
     let a = both (over with_block [] blocks) _ frames h in
     let b = both (known_block top (block_named blocks top)) _ frames a.then' in
-    let c = both (enter 65 blocks [] None nothing_entered (record { name = []; block = b.first; given = [] }))
+    let c = both (add_subtree 65 blocks [] None nothing_entered (record {
+      name = [];
+      block = b.first;
+      given
+          = [];
+    }))
     _ frames b.then' in
     let none : AreHeld nothing_entered = record {
       few = omega arith;

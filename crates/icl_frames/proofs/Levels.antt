@@ -5,30 +5,30 @@ use Rattle.std.specs.Prelude.{nat_le}
 use Rattle.ij_text.specs.declared.Which.TheVariants.{Hierarchy, Cells}
 use Rattle.icl_lexer.specs.Values.{SeenModule}
 use Rattle.icl_declarations.specs.Faults.{Answer, Fault, Fails, ◌>>=◌, refuse_if, over, Limit}
-use Rattle.icl_frames.specs.FirstPass.{Request, Progress, Entered, enter_one, enter}
+use Rattle.icl_frames.specs.FirstPass.{Request, Progress, Entered, enter_one, add_subtree}
 use Rattle.icl_frames.specs.SeenFrames.{Stepped, add_cell}
 
 pub no_level : (levels : ℕ) (blocks : List SeenModule) (above : List (List ℕ)) (parent : Option ℕ)
     (s : Progress) (r : Request) → levels ≡ 0
-    → enter levels blocks above parent s r ≡ Err (Limit Hierarchy 64)
-unfolding enter
+    → add_subtree levels blocks above parent s r ≡ Err (Limit Hierarchy 64)
+unfolding add_subtree
 no_level zero blocks above parent s r e = refl
 no_level (suc levels) blocks above parent s r e = absurd (omega (arith, e))
 
 -- below a cell
 abbrev pub below : ℕ → List SeenModule → List (List ℕ) → ℕ → Answer Stepped → Answer Progress
 below levels blocks inside cell a =
-    a >>= λ w. over (enter levels blocks inside (Some cell)) w.progress w.requests
+    a >>= λ w. over (add_subtree levels blocks inside (Some cell)) w.progress w.requests
 
 one_level : (levels : ℕ) (blocks : List SeenModule) (above : List (List ℕ))
     (parent : Option ℕ) (s : Progress) (r : Request)
-    → enter (suc levels) blocks above parent s r ≡ below levels blocks (r.block.name ∷ above)
+    → add_subtree (suc levels) blocks above parent s r ≡ below levels blocks (r.block.name ∷ above)
     (length s.frames) (add_cell blocks (r.block.name ∷ above) parent s r)
-unfolding enter add_cell
+unfolding add_subtree add_cell
 one_level levels blocks above parent s r = by_room (nat_le 8192 (length s.frames))
   where
     next : Entered → Answer Progress
-    next e = over (enter levels blocks (r.block.name ∷ above) (Some (length s.frames)))
+    next e = over (add_subtree levels blocks (r.block.name ∷ above) (Some (length s.frames)))
         (record { frames = s.frames ++ e.frame ∷ []; counts = e.counts }) e.requests
 
     step : Entered → Answer Stepped
@@ -49,7 +49,7 @@ one_level levels blocks above parent s r = by_room (nat_le 8192 (length s.frames
 
 pub a_level : (levels : ℕ) (blocks : List SeenModule) (above inside : List (List ℕ)) (parent : Option ℕ)
     (s : Progress) (r : Request) → 0 < levels → inside ≡ r.block.name ∷ above
-    → enter levels blocks above parent s r
+    → add_subtree levels blocks above parent s r
     ≡ below (levels - 1) blocks inside (length s.frames) (add_cell blocks inside parent s r)
 a_level zero blocks above inside parent s r lt e = absurd (omega (arith, lt))
 a_level (suc levels) blocks above inside parent s r lt e =
@@ -64,5 +64,5 @@ below_fails levels blocks inside cell a (Some e) whole h k = h ∙ ap (below lev
 pub below_goes : (levels : ℕ) (blocks : List SeenModule) (inside : List (List ℕ)) (cell : ℕ)
     (a : Answer Stepped) (w : Stepped) (whole : Answer Progress)
     → whole ≡ below levels blocks inside cell a → a ≡ Ok w
-    → over (enter levels blocks inside (Some cell)) w.progress w.requests ≡ whole
+    → over (add_subtree levels blocks inside (Some cell)) w.progress w.requests ≡ whole
 below_goes levels blocks inside cell a w whole h k = sym (h ∙ ap (below levels blocks inside cell) k)

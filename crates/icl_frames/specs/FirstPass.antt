@@ -14,10 +14,10 @@ use Rattle.icl_declarations.specs.Faults.{InstanceLoop, Limit}
 use Rattle.icl_declarations.specs.Values.{ParamValue, Params, param_value, with_param}
 use Rattle.icl_declarations.specs.Expressions.{evaluate}
 use Rattle.icl_declarations.specs.declared.counts.Counts.{Counts}
-use Rattle.icl_declarations.specs.Parts.{is_part, range_in, block_named, is_open, is_instrument}
+use Rattle.icl_declarations.specs.Parts.{is_part, range_in, block_named, is_bindable, is_instrument}
 use Rattle.icl_declarations.specs.declared.ranges.Bounds.{Bounds}
 use Rattle.icl_declarations.specs.Ranges.{declared}
-use Rattle.icl_declarations.specs.Naming.{new_names}
+use Rattle.icl_declarations.specs.Naming.{check_item_names}
 use Rattle.icl_declarations.specs.Counting.{count_part, count_instrument}
 
 -- a cell: an instance of a module, with its parameters, and the bounds of each of its parts
@@ -57,7 +57,7 @@ parameters given block = over (λ ps item. with_parameter given ps item item.wha
 
 abbrev pub with_binding : Params → SeenModule → Params → SeenBind → Answer Params
 with_binding ps block given (ABoundParameter at name e) = do
-  open' ← refuse_if (not (is_open block name)) (NoName at name)
+  open' ← refuse_if (not (is_bindable block name)) (NoName at name)
   once ← refuse_if (is_some (param_value given name)) (DoubleName at name)
   value ← evaluate ps at e
   Ok (with_param given name value)
@@ -98,10 +98,10 @@ pub record Added : Type 0 where
   pub counts : Counts
 
 -- an item after others, in a cell that is in these modules
-unfoldable pub look_at : List SeenModule → List (List ℕ) → Params
+unfoldable pub item_additions : List SeenModule → List (List ℕ) → Params
     → List SeenItem → Counts → SeenItem → Answer Added
-look_at blocks above ps before c item = do
-  names ← new_names before item
+item_additions blocks above ps before c item = do
+  names ← check_item_names before item
   b ← declared ps (range_in item.what)
   wanted ← request blocks above ps item item.what
   counts ← count_part c b item.what
@@ -117,7 +117,7 @@ with_added s item a = record {
 
 unfoldable pub fold_item : List SeenModule → List (List ℕ) → Params → Passed → SeenItem → Answer Passed
 fold_item blocks above ps s item =
-    look_at blocks above ps s.items s.counts item >>= λ a. Ok (with_added s item a)
+    item_additions blocks above ps s.items s.counts item >>= λ a. Ok (with_added s item a)
 
 abbrev pub nothing_passed : Counts → Passed
 nothing_passed c = record { items = []; bounds = []; requests = []; counts = c }
@@ -128,8 +128,8 @@ fold_items blocks above ps c block = over (fold_item blocks above ps) (nothing_p
 -- ---- instruments
 
 -- the top is no instrument
-abbrev pub finish : Option ℕ → SeenModule → Passed → Answer Counts
-finish parent block s =
+abbrev pub cell_counts : Option ℕ → SeenModule → Passed → Answer Counts
+cell_counts parent block s =
     cond (is_some parent && is_instrument block) (count_instrument block s.bounds s.counts) (Ok s.counts)
 
 -- ---- cells
@@ -149,7 +149,7 @@ unfoldable pub enter_one : List SeenModule → List (List ℕ) → Option ℕ �
 enter_one blocks above parent c r = do
   ps ← parameters r.given r.block
   s ← fold_items blocks above ps c r.block
-  counts ← finish parent r.block s
+  counts ← cell_counts parent r.block s
   Ok (record {
     frame = record {
       name = r.name;
@@ -163,12 +163,13 @@ enter_one blocks above parent c r = do
   })
 
 -- a cell and all cells below it, in this many levels
-unfoldable pub enter : ℕ → List SeenModule → List (List ℕ) → Option ℕ → Progress → Request → Answer Progress
-enter zero blocks above parent s r = Err (Limit Hierarchy 64)
-enter (suc levels) blocks above parent s r = do
+unfoldable pub add_subtree : ℕ → List SeenModule → List (List ℕ) → Option ℕ → Progress → Request → Answer
+    Progress
+add_subtree zero blocks above parent s r = Err (Limit Hierarchy 64)
+add_subtree (suc levels) blocks above parent s r = do
   room ← refuse_if (nat_le 8192 (length s.frames)) (Limit Cells 8192)
   e ← enter_one blocks (r.block.name ∷ above) parent s.counts r
-  over (enter levels blocks (r.block.name ∷ above) (Some (length s.frames)))
+  over (add_subtree levels blocks (r.block.name ∷ above) (Some (length s.frames)))
       (record { frames = s.frames ++ e.frame ∷ []; counts = e.counts }) e.requests
 
 -- ---- the whole pass
@@ -185,5 +186,5 @@ unfoldable pub first_pass : List SeenModule → List ℕ → Answer (List Frame)
 first_pass blocks top = do
   names ← over with_block [] blocks
   block ← known_block top (block_named blocks top)
-  s ← enter 65 blocks [] None nothing_entered (record { name = []; block = block; given = [] })
+  s ← add_subtree 65 blocks [] None nothing_entered (record { name = []; block = block; given = [] })
   Ok s.frames

@@ -15,7 +15,8 @@ use Rattle.icl_frames.specs.declared.cells.Frame.{Frame as FrameAt}
 use Rattle.icl_frames.specs.declared.cells.Entered.{Entered as EnteredAt}
 use Rattle.icl_frames.specs.declared.cells.Progress.{Progress as ProgressAt}
 use Rattle.icl_frames.specs.declared.cells.Stepped.{Stepped as SteppedAt}
-use Rattle.icl_frames.specs.FirstPass.{Request, Passed, Added, Frame, Entered, Progress, finish, enter_one}
+use Rattle.icl_frames.specs.FirstPass.{Request, Passed, Added, Frame, Entered, Progress, cell_counts}
+use Rattle.icl_frames.specs.FirstPass.{enter_one}
 
 abbrev pub seen_request : RequestAt → Request
 seen_request r = record { name = r.name.now; block = seen_module r.block.now; given = seen_table r.given }
@@ -60,9 +61,9 @@ seen_progress s = record { frames = map seen_frame s.frames.items; counts = s.co
 -- ---- one cell more
 
 -- what `enter_one` does after the items of a cell
-abbrev pub finished : Option ℕ → Request → Params → Passed → Answer Entered
-finished parent r ps s =
-    finish parent r.block s >>= λ counts. Ok (record {
+abbrev pub finished_cell : Option ℕ → Request → Params → Passed → Answer Entered
+finished_cell parent r ps s =
+    cell_counts parent r.block s >>= λ counts. Ok (record {
       frame = record {
         name = r.name;
         parent = parent;
@@ -87,7 +88,7 @@ pub record Stepped : Type 0 where
 abbrev pub seen_stepped : SteppedAt → Stepped
 seen_stepped w = record { progress = seen_progress w.progress; requests = map seen_request w.requests.items }
 
--- what `enter` does before it goes below a cell, which is in these modules, its own among them
+-- what `add_subtree` does before it goes below a cell, which is in these modules, its own among them
 unfoldable pub add_cell : List SeenModule → List (List ℕ) → Option ℕ → Progress → Request → Answer Stepped
 add_cell blocks above parent s r = do
   room ← refuse_if (nat_le 8192 (length s.frames)) (Limit Cells 8192)

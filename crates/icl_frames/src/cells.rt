@@ -7,10 +7,12 @@ ghost use Rattle.icl_declarations.specs.Faults.{Gives, refuse_if, over, Limit};
 ghost use Rattle.icl_declarations.specs.Scopes.{entry_of};
 ghost use Rattle.ij_text.specs.declared.Which.TheVariants.{Cells};
 ghost use Rattle.icl_declarations.specs.Tables.{seen_table};
-ghost use Rattle.icl_frames.specs.FirstPass.{with_block, parameters, fold_items, finish, enter_one, enter};
+ghost use Rattle.icl_frames.specs.FirstPass.{with_block, parameters, fold_items, cell_counts, enter_one};
+ghost use Rattle.icl_frames.specs.FirstPass.{add_subtree};
 ghost use Rattle.icl_frames.specs.FirstPass.{first_pass};
 ghost use Rattle.icl_frames.specs.SeenFrames.{names_of, seen_passed, seen_request, seen_frame, seen_entered};
-ghost use Rattle.icl_frames.specs.SeenFrames.{seen_progress, seen_stepped, finished, entered_next, add_cell};
+ghost use Rattle.icl_frames.specs.SeenFrames.{seen_progress, seen_stepped, finished_cell, entered_next};
+ghost use Rattle.icl_frames.specs.SeenFrames.{add_cell};
 
 use crate::ElabFault;
 use crate::frames::{Passed, Request, fold_items};
@@ -58,9 +60,9 @@ pub struct Progress<'a> {
 }
 
 /// What is counted with a cell whose items were passed: an instrument, unless it is the top.
-fn finish(parent: Option<u32>, block: &Module, passed: &Passed) -> Result<Counts, ElabFault>
+fn cell_counts(parent: Option<u32>, block: &Module, passed: &Passed) -> Result<Counts, ElabFault>
     ensures few { IfOk result (λ c. c.bits ≡ passed.now.counts.bits) }
-    ensures gives { Gives same result (finish parent (seen_module block.now)
+    ensures gives { Gives same result (cell_counts parent (seen_module block.now)
         (seen_passed (map seen_item block.now.items.items) passed.now)) }
 {
     if parent.is_some() && is_instrument(block) {
@@ -107,17 +109,17 @@ fn own_items<'a>(
 }
 
 /// The cell of an instance whose items were passed, with what is counted up to there.
-fn finished<'a>(
+fn finished_cell<'a>(
     parent: Option<u32>,
     request: &Request<'a>,
     params: ParamTable,
     passed: Passed<'a>,
 ) -> Result<Entered<'a>, ElabFault>
     ensures few { IfOk result (λ e. e.counts.bits ≡ passed.entry.counts.bits) }
-    ensures gives { Gives seen_entered result (finished parent (seen_request request.now) (seen_table params)
+    ensures gives { Gives seen_entered result (finished_cell parent (seen_request request.now) (seen_table params)
         (seen_passed (map seen_item request.now.block.now.items.items) passed.entry)) }
 {
-    match finish(parent, request.block, &passed) {
+    match cell_counts(parent, request.block, &passed) {
         Ok(counts) => {
             drop(passed.taken);
             Ok(Entered {
@@ -158,7 +160,7 @@ fn enter_one<'a>(
     let block = request.block;
     let params = own_parameters(alloc, &request.given, block)?;
     match own_items(alloc, modules, above, &params, counts, block) {
-        Ok(passed) => finished(parent, request, params, passed),
+        Ok(passed) => finished_cell(parent, request, params, passed),
         Err(e) => {
             drop(params);
             Err(e)
@@ -320,7 +322,7 @@ fn modules_around<'a>(
 }
 
 /// The cells with that of an instance and all below it, in this many levels.
-fn enter<'a>(
+fn add_subtree<'a>(
     alloc: Global,
     modules: &'a [Module],
     above: &[&'a Module],
@@ -331,7 +333,7 @@ fn enter<'a>(
 ) -> Result<Progress<'a>, ElabFault>
     requires { state.counts.bits ≤ 4096 }
     ensures few { IfOk result (λ s. s.counts.bits ≤ 4096) }
-    ensures gives { Gives seen_progress result (enter levels (map seen_module modules.now)
+    ensures gives { Gives seen_progress result (add_subtree levels (map seen_module modules.now)
         (names_of above.now) parent (seen_progress state.entry) (seen_request request.now)) }
 {
     if levels == 0 {
@@ -347,7 +349,7 @@ fn enter<'a>(
     let requests = stepped.requests;
     let mut cells = stepped.progress;
     for wanted in requests.as_slice() {
-        cells = enter(
+        cells = add_subtree(
             alloc,
             modules,
             inside.as_slice(),
@@ -376,8 +378,8 @@ fn note_modules(alloc: Global, seen: &mut Scope, modules: &[Module]) -> Result<(
     Ok(())
 }
 
-/// Whether the names of the modules differ.
-fn distinct_modules(alloc: Global, modules: &[Module]) -> Result<(), ElabFault>
+/// Checks that the names of the modules differ. `DoubleName` at the first that is there already.
+fn check_modules_differ(alloc: Global, modules: &[Module]) -> Result<(), ElabFault>
     ensures { Gives (λ u. map seen_module modules.now) result
         (over with_block [] (map seen_module modules.now)) }
 {
@@ -408,7 +410,7 @@ pub fn first_pass<'a>(
     ensures { Gives (λ frames. map seen_frame frames.items) result
         (first_pass (map seen_module modules.now) top.now) }
 {
-    distinct_modules(alloc, modules)?;
+    check_modules_differ(alloc, modules)?;
     let block = known_block(alloc, modules, top)?;
     let request = Request {
         name: &[],
@@ -423,7 +425,7 @@ pub fn first_pass<'a>(
             instruments: 0,
         },
     };
-    let end = enter(alloc, modules, &[], 65, None, nothing, &request);
+    let end = add_subtree(alloc, modules, &[], 65, None, nothing, &request);
     drop(request);
     Ok(end?.frames)
 }

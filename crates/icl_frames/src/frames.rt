@@ -7,7 +7,7 @@ ghost use Rattle.icl_lexer.specs.Values.{SeenItem, AChild};
 ghost use Rattle.icl_lexer.specs.Views.{seen_what, seen_item, seen_module, seen_bind};
 ghost use Rattle.icl_declarations.specs.Faults.{Gives, over};
 ghost use Rattle.icl_declarations.specs.Tables.{seen_table};
-ghost use Rattle.icl_frames.specs.FirstPass.{request, bounds_of, look_at, with_added, fold_item};
+ghost use Rattle.icl_frames.specs.FirstPass.{request, bounds_of, item_additions, with_added, fold_item};
 ghost use Rattle.icl_frames.specs.FirstPass.{nothing_passed};
 ghost use Rattle.icl_declarations.specs.Parts.{range_in};
 ghost use Rattle.icl_declarations.specs.Ranges.{declared};
@@ -17,7 +17,7 @@ ghost use Rattle.icl_frames.specs.SeenFrames.{seen_request, seen_wanted, names_o
 use crate::ElabFault;
 use crate::instances::{bound_parameters, known_block};
 use icl_declarations::{
-    Bounds, Counts, ParamTable, Taken, count_part, declared, is_part, new_names,
+    Bounds, Counts, ParamTable, Taken, check_item_names, count_part, declared, is_part,
 };
 use icl_lexer::{Bind, Item, Module, SmallText, What};
 use std::alloc::Global;
@@ -152,8 +152,8 @@ pub struct Added<'a> {
 }
 
 /// What an item adds, after the items with these names.
-#[tactic(auto, unfolding(crate::specs::FirstPass::look_at))]
-fn look_at<'a>(
+#[tactic(auto, unfolding(crate::specs::FirstPass::item_additions))]
+fn item_additions<'a>(
     alloc: Global,
     modules: &'a [Module],
     above: &[&Module],
@@ -165,10 +165,10 @@ fn look_at<'a>(
     requires { counts.bits ≤ 4096 }
     ensures few { IfOk result (λ a. a.counts.bits ≤ 4096) }
     ensures gives { (items : List SeenItem) → AreTaken taken.now items
-        → Gives seen_added result (look_at (map seen_module modules.now) (names_of above.now)
+        → Gives seen_added result (item_additions (map seen_module modules.now) (names_of above.now)
         (seen_table params.now) items counts (seen_item item.now)) }
 {
-    new_names(alloc, taken, item)?;
+    check_item_names(alloc, taken, item)?;
     let bounds = declared_by(alloc, params, &item.what)?;
     let wanted = item_request(alloc, modules, above, params, item)?;
     let counts = count_part(counts, bounds, &item.what)?;
@@ -194,7 +194,7 @@ fn add<'a>(
         state.new ≡ with_added (seen_passed items state.old) (seen_item item.now) (seen_added added.entry)) }
 {
     add_request(added.wanted, &mut state.requests)?;
-    state.taken.pass(alloc, item)?;
+    state.taken.note_item(alloc, item)?;
     add_bounds(&item.what, added.bounds, &mut state.bounds)?;
     state.counts = added.counts;
     Ok(())
@@ -218,7 +218,7 @@ fn add_item<'a>(
         (items ++ seen_item item.now ∷ []) state.new) result (fold_item (map seen_module modules.now)
         (names_of above.now) (seen_table params.now) (seen_passed items state.old) (seen_item item.now)) }
 {
-    let added = look_at(
+    let added = item_additions(
         alloc,
         modules,
         above,

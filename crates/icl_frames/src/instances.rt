@@ -7,7 +7,7 @@ ghost use Rattle.icl_lexer.specs.Values.{ABoundParameter};
 ghost use Rattle.icl_lexer.specs.Views.{seen_expr, seen_what, seen_bind, seen_module};
 ghost use Rattle.icl_declarations.specs.Faults.{Gives, over};
 ghost use Rattle.icl_declarations.specs.Tables.{seen_table};
-ghost use Rattle.icl_declarations.specs.Parts.{block_named, is_parameter_that, has_parameter, is_open};
+ghost use Rattle.icl_declarations.specs.Parts.{block_named, is_parameter_that, has_parameter, is_bindable};
 ghost use Rattle.icl_frames.specs.FirstPass.{known_block, with_binding};
 
 use crate::ElabFault;
@@ -70,8 +70,8 @@ fn has_parameter(block: &Module, is_local: bool, name: &[u8]) -> bool
 }
 
 /// Whether an instance of a module may bind a parameter of this name.
-pub fn is_open(block: &Module, name: &[u8]) -> bool
-    ensures { result ≡ is_open (seen_module block.now) name.now }
+pub fn is_bindable(block: &Module, name: &[u8]) -> bool
+    ensures { result ≡ is_bindable (seen_module block.now) name.now }
 {
     has_parameter(block, false, name) && !has_parameter(block, true, name)
 }
@@ -89,7 +89,7 @@ fn bind(
     ensures { Gives (λ u. seen_table given.new) result (with_binding (seen_table params.now) (seen_module
         block.now) (seen_table given.old) (ABoundParameter at name.now.items (seen_expr e.now))) }
 {
-    if !is_open(block, name.as_slice()) {
+    if !is_bindable(block, name.as_slice()) {
         let name = name_of(alloc, name.as_slice())?;
         return Err(ElabFault::NoName { at, name });
     }

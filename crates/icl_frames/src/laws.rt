@@ -27,12 +27,12 @@ pub fn frames_are_within_limits()
 
 /// In a design that the grammar derives from a text's tokens, fewer than 2^32, the names of modules, items
 /// and words are names of ICL, and a multiplexer has a select and rows, each with a value.
-pub fn designs_are_written()
+pub fn designs_have_icl_names()
     ensures { DesignsAreWritten }
 {}
 
 /// Where the names of a design's modules and items are names of ICL, and its multiplexers have a select and
 /// rows, each with a value, so have the modules of its cells, and each cell below the top has a name of ICL.
-pub fn frames_are_written()
+pub fn frames_have_icl_names()
     ensures { FramesAreWritten }
 {}

@@ -78,7 +78,7 @@ fn begin_other(b: u8) -> State
 }
 
 /// The state after a byte that may go on a decimal or a parameter.
-fn go_on_size(in_class: bool, state: State, b: u8) -> State
+fn after_size_byte(in_class: bool, state: State, b: u8) -> State
     ensures { (bs : List ℕ)
         → kind_from result bs ≡ cond in_class (kind_from state bs) (cond (b == 39) (base bs) None) }
 {
@@ -90,7 +90,7 @@ fn go_on_size(in_class: bool, state: State, b: u8) -> State
 }
 
 /// The state after a byte of quoted text.
-fn go_on_text(b: u8) -> State
+fn after_quoted_byte(b: u8) -> State
     ensures { (bs : List ℕ) → kind_from result bs ≡ quoted false (b ∷ bs) }
 {
     match b {
@@ -101,7 +101,7 @@ fn go_on_text(b: u8) -> State
 }
 
 /// The state after the byte after a `/`.
-fn go_on_slash(b: u8) -> State
+fn after_slash(b: u8) -> State
     ensures { (bs : List ℕ) → kind_from result bs ≡ slash (b ∷ bs) }
 {
     match b {
@@ -112,20 +112,20 @@ fn go_on_slash(b: u8) -> State
 }
 
 /// The state after a byte of a comment that doesn't end it.
-fn go_on_block(b: u8) -> State
+fn after_comment_byte(b: u8) -> State
     ensures { (bs : List ℕ) → kind_from result bs ≡ block (b == 42) bs }
 {
     if b == b'*' { State::Star } else { State::Block }
 }
 
 /// The state after a byte of a comment after a `*` of it.
-fn go_on_star(b: u8) -> State
+fn after_star(b: u8) -> State
     ensures { (bs : List ℕ) → kind_from result bs ≡ block true (b ∷ bs) }
 {
     if b == b'/' {
         State::Whole(PieceKind::Gap)
     } else {
-        go_on_block(b)
+        after_comment_byte(b)
     }
 }
 
@@ -137,18 +137,18 @@ impl State {
         match self {
             State::Start => begin(b),
             State::Word => state_if(in_name(b), State::Word),
-            State::Decimal => go_on_size(in_decimal(b), State::Decimal, b),
+            State::Decimal => after_size_byte(in_decimal(b), State::Decimal, b),
             State::Dollar => state_if(begins_name(b), State::Parameter),
-            State::Parameter => go_on_size(in_name(b), State::Parameter, b),
+            State::Parameter => after_size_byte(in_name(b), State::Parameter, b),
             State::Apostrophe => state_if(is_base(b), State::Base),
             State::Base => state_if(is_digit_x(b), State::Digits),
             State::Digits => state_if(in_digits(b), State::Digits),
-            State::Quoted => go_on_text(b),
+            State::Quoted => after_quoted_byte(b),
             State::Backslash => State::Quoted,
-            State::Slash => go_on_slash(b),
+            State::Slash => after_slash(b),
             State::Line => state_if(b != b'\n', State::Line),
-            State::Block => go_on_block(b),
-            State::Star => go_on_star(b),
+            State::Block => after_comment_byte(b),
+            State::Star => after_star(b),
             State::Whole(_) => State::Dead,
             State::Dead => State::Dead,
         }

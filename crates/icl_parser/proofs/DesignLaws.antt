@@ -23,7 +23,7 @@ use Rattle.icl_lexer.specs.Modules.{with_member, interface, selected, selecting,
 use Rattle.icl_lexer.specs.Modules.{entity, link, item_begun, item_begin_at, meaning_after, item, module_of}
 use Rattle.icl_lexer.specs.Modules.{design}
 use Rattle.icl_expressions.specs.Reading.{Shrinks, gives, any, is_name, no_close, read_mark, read_ended}
-use Rattle.icl_parser.specs.Reading.{read_enum_word, read_many_words, read_words, read_member_word}
+use Rattle.icl_parser.specs.Reading.{read_enum_word, read_many_words, read_enum, read_member_word}
 use Rattle.icl_parser.specs.Reading.{read_member_after, read_member, read_members, read_interface}
 use Rattle.icl_parser.specs.Reading.{read_selected, read_selecting, read_instruction, read_instructions}
 use Rattle.icl_parser.specs.Reading.{read_entity, read_link_kind, read_link, read_item_begin}
@@ -68,8 +68,8 @@ enum_word_reads =
 pub enum_word_shrinks : Shrinks read_enum_word
 enum_word_shrinks = reads_shrink enum_word_reads
 
-words_reads : Reads words any nothing false read_words
-unfolding words read_words read_many_words
+words_reads : Reads words any nothing false read_enum
+unfolding words read_enum read_many_words
 words_reads = wider_reads (made_reads (λ ws. SomeWords ws)
     (braced_reads enum_word read_enum_word enum_word_reads)) any nothing (λ t h. refl) (λ t h. refl)
 

@@ -185,8 +185,8 @@ read_enum_word = read_in_turn read_name (λ n. read_in_turn (read_mark 61) (λ e
 unfoldable pub read_many_words : Reading (List SeenEnumWord)
 read_many_words = read_many read_enum_word
 
-unfoldable pub read_words : Reading SeenWhat
-read_words = read_in_turn (read_braced read_many_words) (λ ws. gives (SomeWords ws))
+unfoldable pub read_enum : Reading SeenWhat
+read_enum = read_in_turn (read_braced read_many_words) (λ ws. gives (SomeWords ws))
 
 abbrev pub read_member_after : MemberKeyword → Reading (Option (List ℕ))
 read_member_after MemberPort = read_in_turn read_name (λ n. gives (Some n))
@@ -239,7 +239,7 @@ read_meaning_after OfRegister = read_register
 read_meaning_after OfMux = read_mux
 read_meaning_after OfChild = read_child
 read_meaning_after OfAlias = read_alias
-read_meaning_after OfEnum = read_words
+read_meaning_after OfEnum = read_enum
 read_meaning_after (OfParameter local) = read_parameter local
 read_meaning_after OfAttribute = read_attribute
 read_meaning_after OfInterface = read_interface

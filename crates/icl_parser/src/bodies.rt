@@ -15,11 +15,11 @@ ghost use Rattle.icl_parser.specs.Reading.{read_braced_body, read_body};
 
 use crate::words::prop_word;
 use icl_expressions::{
-    Parsed, ReadStop, before_close, begins_mark, maybe_expr_after, push_parsed, read_decimal,
+    Parsed, ReadStop, begins_mark, is_next_not_close, maybe_expr_after, push_parsed, read_decimal,
     read_mark, read_name, read_sig, read_sigs, read_value,
 };
 use icl_lexer::{BodyKind, Cursor, Expr, Lexeme, Prop, PropKeyword, Sig, SmallText};
-use ij_bits::{List, OutOfMemory, beside};
+use ij_bits::{List, OutOfMemory, pair_if_ok};
 use std::alloc::Global;
 
 // ---- which properties may stand
@@ -130,7 +130,7 @@ pub(crate) fn read_attribute_said<'a>(
     ensures gives { Gives (seen_read seen_said) result (read_attribute_said tokens.entry) }
 {
     let name = read_name(alloc, tokens)?;
-    let (name, value) = beside(name.value, maybe_expr_after(alloc, name.rest, b'='))?;
+    let (name, value) = pair_if_ok(name.value, maybe_expr_after(alloc, name.rest, b'='))?;
     Ok(Parsed {
         value: Said {
             name,
@@ -265,7 +265,7 @@ fn read_property<'a>(
 {
     let word = read_free_prop(owner, props, tokens)?;
     let prop = read_prop_after(alloc, owner, word.value, word.rest)?;
-    let (prop, end) = beside(prop.value, read_mark(prop.rest, b';'))?;
+    let (prop, end) = pair_if_ok(prop.value, read_mark(prop.rest, b';'))?;
     Ok(Parsed {
         value: prop,
         rest: end.rest,
@@ -304,7 +304,7 @@ fn with_property<'a>(
     let rest = props.rest;
     let props = props.value;
     let next = read_property(alloc, owner, props.as_slice(), rest);
-    let (props, next) = beside(props, next)?;
+    let (props, next) = pair_if_ok(props, next)?;
     Ok(with(props, next)?)
 }
 
@@ -322,7 +322,7 @@ fn read_properties<'a>(
         value: List::new(alloc),
         rest: tokens,
     };
-    while before_close(&props.rest) {
+    while is_next_not_close(&props.rest) {
         props = with_property(alloc, owner, props)?;
     }
     Ok(props)

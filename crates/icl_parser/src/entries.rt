@@ -5,9 +5,9 @@ ghost use Rattle.ij_text.specs.Symbol.{appended};
 ghost use Rattle.icl_expressions.specs.Seen.{seen_read, Gives};
 ghost use Rattle.icl_expressions.specs.Reading.{Reading, Shrinks, read_put, more, read_many, read_braced};
 
-use icl_expressions::{Parsed, ReadStop, before_close, push_parsed, read_mark};
+use icl_expressions::{Parsed, ReadStop, is_next_not_close, push_parsed, read_mark};
 use icl_lexer::Cursor;
-use ij_bits::{List, beside};
+use ij_bits::{List, pair_if_ok};
 use std::alloc::Global;
 
 /// What comes after others of its kind, without a mark between them.
@@ -35,12 +35,12 @@ pub(crate) fn read_next_entry<'a, T: Entry + Drop>(
     ensures gives { Gives (seen_read (seen_list T.view)) result
         (read_put T.reader appended (seen_list T.view entries.entry.value) entries.entry.rest) }
 {
-    let (values, next) = beside(entries.value, T::read(alloc, entries.rest))?;
+    let (values, next) = pair_if_ok(entries.value, T::read(alloc, entries.rest))?;
     Ok(push_parsed(values, next)?)
 }
 
 /// Entries with those that follow, up to a `}` or the end of the tokens.
-pub(crate) fn read_after<'a, T: Entry + Drop>(
+pub(crate) fn read_more_entries<'a, T: Entry + Drop>(
     alloc: Global,
     first: Parsed<'a, List<T>>,
 ) -> Result<Parsed<'a, List<T>>, ReadStop>
@@ -50,7 +50,7 @@ pub(crate) fn read_after<'a, T: Entry + Drop>(
         (more T.reader (seen_list T.view first.entry.value) first.entry.rest) }
 {
     let mut entries = first;
-    while before_close(&entries.rest) {
+    while is_next_not_close(&entries.rest) {
         entries = read_next_entry(alloc, entries)?;
     }
     Ok(entries)
@@ -69,7 +69,7 @@ pub(crate) fn read_many<'a, T: Entry + Drop>(
         value: List::new(alloc),
         rest: tokens,
     };
-    read_after(alloc, none)
+    read_more_entries(alloc, none)
 }
 
 /// Entries in braces.
@@ -84,7 +84,7 @@ pub(crate) fn read_braced<'a, T: Entry + Drop>(
 {
     let open = read_mark(tokens, b'{')?;
     let entries = read_many(alloc, open.rest)?;
-    let (value, close) = beside(entries.value, read_mark(entries.rest, b'}'))?;
+    let (value, close) = pair_if_ok(entries.value, read_mark(entries.rest, b'}'))?;
     Ok(Parsed {
         value,
         rest: close.rest,

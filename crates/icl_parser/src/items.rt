@@ -14,14 +14,14 @@ ghost use Rattle.icl_parser.specs.Reading.{read_bind_after, read_bind_begin, rea
 ghost use Rattle.icl_parser.specs.Reading.{read_child};
 
 use crate::bodies::{read_attribute_said, read_body};
-use crate::entries::{Entry, read_after, read_braced};
+use crate::entries::{Entry, read_braced, read_more_entries};
 use crate::words::bind_word;
 use icl_expressions::{
     Parsed, ReadStop, begins_mark, maybe_expr_after, maybe_range, push_parsed, read_expr_after,
     read_mark, read_name, read_parted, read_sig, read_sigs, read_word,
 };
 use icl_lexer::{Bind, BindKeyword, BodyKind, Cursor, MuxRow, PortKind, Range, What};
-use ij_bits::{List, beside};
+use ij_bits::{List, pair_if_ok};
 use ij_text::Place;
 use std::alloc::Global;
 
@@ -70,7 +70,7 @@ pub(crate) fn read_port<'a>(
 {
     let owner = owner_of(kind);
     let range = read_port_range(alloc, owner, tokens)?;
-    let (range, props) = beside(range.value, read_body(alloc, owner, range.rest))?;
+    let (range, props) = pair_if_ok(range.value, read_body(alloc, owner, range.rest))?;
     Ok(Parsed {
         value: What::Port {
             kind,
@@ -91,7 +91,7 @@ pub(crate) fn read_register<'a>(
     ensures gives { Gives (seen_read seen_what) result (read_register tokens.entry) }
 {
     let range = maybe_range(alloc, tokens)?;
-    let (range, props) = beside(
+    let (range, props) = pair_if_ok(
         range.value,
         read_body(alloc, BodyKind::Register, range.rest),
     )?;
@@ -114,10 +114,10 @@ pub(crate) fn read_alias<'a>(
     ensures gives { Gives (seen_read seen_what) result (read_alias tokens.entry) }
 {
     let range = maybe_range(alloc, tokens)?;
-    let (range, equals) = beside(range.value, read_mark(range.rest, b'='))?;
-    let (range, sigs) = beside(range, read_sigs(alloc, equals.rest))?;
-    let props = beside(sigs.value, read_body(alloc, BodyKind::Alias, sigs.rest));
-    let (range, (sigs, props)) = beside(range, props)?;
+    let (range, equals) = pair_if_ok(range.value, read_mark(range.rest, b'='))?;
+    let (range, sigs) = pair_if_ok(range, read_sigs(alloc, equals.rest))?;
+    let props = pair_if_ok(sigs.value, read_body(alloc, BodyKind::Alias, sigs.rest));
+    let (range, (sigs, props)) = pair_if_ok(range, props)?;
     Ok(Parsed {
         value: What::Alias {
             range,
@@ -139,7 +139,7 @@ pub(crate) fn read_parameter<'a>(
     ensures gives { Gives (seen_read seen_what) result (read_parameter local tokens.entry) }
 {
     let value = read_expr_after(alloc, tokens, b'=')?;
-    let (value, end) = beside(value.value, read_mark(value.rest, b';'))?;
+    let (value, end) = pair_if_ok(value.value, read_mark(value.rest, b';'))?;
     Ok(Parsed {
         value: What::Parameter { local, value },
         rest: end.rest,
@@ -156,7 +156,7 @@ pub(crate) fn read_attribute<'a>(
     ensures gives { Gives (seen_read seen_what) result (read_attribute tokens.entry) }
 {
     let value = maybe_expr_after(alloc, tokens, b'=')?;
-    let (value, end) = beside(value.value, read_mark(value.rest, b';'))?;
+    let (value, end) = pair_if_ok(value.value, read_mark(value.rest, b';'))?;
     Ok(Parsed {
         value: What::Attribute { value },
         rest: end.rest,
@@ -176,13 +176,13 @@ impl Entry for MuxRow {
 
     fn read<'a>(alloc: Global, tokens: Cursor<'a>) -> Result<Parsed<'a, MuxRow>, ReadStop> {
         let values = read_parted(alloc, tokens, b'|')?;
-        let (values, colon) = beside(values.value, read_mark(values.rest, b':'))?;
-        let (values, source) = beside(values, read_sig(alloc, colon.rest))?;
+        let (values, colon) = pair_if_ok(values.value, read_mark(values.rest, b':'))?;
+        let (values, source) = pair_if_ok(values, read_sig(alloc, colon.rest))?;
         let row = MuxRow {
             values,
             source: source.value,
         };
-        let (row, end) = beside(row, read_mark(source.rest, b';'))?;
+        let (row, end) = pair_if_ok(row, read_mark(source.rest, b';'))?;
         Ok(Parsed {
             value: row,
             rest: end.rest,
@@ -198,7 +198,7 @@ fn read_rows<'a>(alloc: Global, tokens: Cursor<'a>) -> Result<Parsed<'a, List<Mu
 {
     let first = MuxRow::read(alloc, tokens)?;
     let rows = push_parsed(List::new(alloc), first)?;
-    read_after(alloc, rows)
+    read_more_entries(alloc, rows)
 }
 
 /// A multiplexer after its name.
@@ -209,10 +209,10 @@ pub(crate) fn read_mux<'a>(alloc: Global, tokens: Cursor<'a>) -> Result<Parsed<'
 {
     let by = read_word(tokens, b"SelectedBy")?;
     let select = read_sigs(alloc, by.rest)?;
-    let (select, open) = beside(select.value, read_mark(select.rest, b'{'))?;
-    let (select, rows) = beside(select, read_rows(alloc, open.rest))?;
-    let close = beside(rows.value, read_mark(rows.rest, b'}'));
-    let (select, (rows, close)) = beside(select, close)?;
+    let (select, open) = pair_if_ok(select.value, read_mark(select.rest, b'{'))?;
+    let (select, rows) = pair_if_ok(select, read_rows(alloc, open.rest))?;
+    let close = pair_if_ok(rows.value, read_mark(rows.rest, b'}'));
+    let (select, (rows, close)) = pair_if_ok(select, close)?;
     Ok(Parsed {
         value: What::Mux { select, rows },
         rest: close.rest,
@@ -232,11 +232,11 @@ fn read_bound_port<'a>(
     ensures gives { Gives (seen_read seen_bind) result (read_bound_port at tokens.entry) }
 {
     let name = read_name(alloc, tokens)?;
-    let (name, range) = beside(name.value, maybe_range(alloc, name.rest))?;
-    let equals = beside(range.value, read_mark(range.rest, b'='));
-    let (name, (range, equals)) = beside(name, equals)?;
-    let sigs = beside(range, read_sigs(alloc, equals.rest));
-    let (name, (range, sigs)) = beside(name, sigs)?;
+    let (name, range) = pair_if_ok(name.value, maybe_range(alloc, name.rest))?;
+    let equals = pair_if_ok(range.value, read_mark(range.rest, b'='));
+    let (name, (range, equals)) = pair_if_ok(name, equals)?;
+    let sigs = pair_if_ok(range, read_sigs(alloc, equals.rest));
+    let (name, (range, sigs)) = pair_if_ok(name, sigs)?;
     Ok(Parsed {
         value: Bind::Port {
             at,
@@ -259,7 +259,7 @@ fn read_bound_parameter<'a>(
     ensures gives { Gives (seen_read seen_bind) result (read_bound_parameter at tokens.entry) }
 {
     let name = read_name(alloc, tokens)?;
-    let (name, value) = beside(name.value, read_expr_after(alloc, name.rest, b'='))?;
+    let (name, value) = pair_if_ok(name.value, read_expr_after(alloc, name.rest, b'='))?;
     Ok(Parsed {
         value: Bind::Parameter {
             at,
@@ -339,7 +339,7 @@ impl Entry for Bind {
     fn read<'a>(alloc: Global, tokens: Cursor<'a>) -> Result<Parsed<'a, Bind>, ReadStop> {
         let begin = read_bind_begin(tokens)?;
         let bind = read_bind_after(alloc, begin.value.at, begin.value.word, begin.rest)?;
-        let (bind, end) = beside(bind.value, read_mark(bind.rest, b';'))?;
+        let (bind, end) = pair_if_ok(bind.value, read_mark(bind.rest, b';'))?;
         Ok(Parsed {
             value: bind,
             rest: end.rest,
@@ -374,7 +374,7 @@ pub(crate) fn read_child<'a>(
 {
     let of = read_word(tokens, b"Of")?;
     let module = read_name(alloc, of.rest)?;
-    let (module, binds) = beside(module.value, read_binds(alloc, module.rest))?;
+    let (module, binds) = pair_if_ok(module.value, read_binds(alloc, module.rest))?;
     Ok(Parsed {
         value: What::Child {
             module,

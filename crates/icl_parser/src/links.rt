@@ -9,7 +9,7 @@ ghost use Rattle.icl_lexer.specs.Modules.{with_member};
 ghost use Rattle.icl_expressions.specs.Seen.{seen_read, Gives};
 ghost use Rattle.icl_parser.specs.SeenParts.{seen_selected};
 ghost use Rattle.icl_expressions.specs.Reading.{read_put};
-ghost use Rattle.icl_parser.specs.Reading.{read_enum_word, read_words, read_member_word, read_member_after};
+ghost use Rattle.icl_parser.specs.Reading.{read_enum_word, read_enum, read_member_word, read_member_after};
 ghost use Rattle.icl_parser.specs.Reading.{read_member, read_members, read_interface, read_selected};
 ghost use Rattle.icl_parser.specs.Reading.{read_selecting, read_instruction, read_entity, read_link_kind};
 ghost use Rattle.icl_parser.specs.Reading.{read_link};
@@ -18,10 +18,10 @@ use crate::bodies::read_attribute_said;
 use crate::entries::{Entry, read_braced, read_many};
 use crate::words::{link_kind, member_word};
 use icl_expressions::{
-    Parsed, ReadStop, before_close, push_parsed, read_mark, read_name, read_value, read_word,
+    Parsed, ReadStop, is_next_not_close, push_parsed, read_mark, read_name, read_value, read_word,
 };
 use icl_lexer::{Cursor, EnumWord, LinkInstr, LinkKind, MemberKeyword, SmallText, What};
-use ij_bits::{List, OutOfMemory, beside};
+use ij_bits::{List, OutOfMemory, pair_if_ok};
 use std::alloc::Global;
 
 // ---- enumerations
@@ -37,13 +37,13 @@ impl Entry for EnumWord {
 
     fn read<'a>(alloc: Global, tokens: Cursor<'a>) -> Result<Parsed<'a, EnumWord>, ReadStop> {
         let name = read_name(alloc, tokens)?;
-        let (name, equals) = beside(name.value, read_mark(name.rest, b'='))?;
-        let (name, value) = beside(name, read_value(alloc, equals.rest))?;
+        let (name, equals) = pair_if_ok(name.value, read_mark(name.rest, b'='))?;
+        let (name, value) = pair_if_ok(name, read_value(alloc, equals.rest))?;
         let word = EnumWord {
             name,
             value: value.value,
         };
-        let (word, end) = beside(word, read_mark(value.rest, b';'))?;
+        let (word, end) = pair_if_ok(word, read_mark(value.rest, b';'))?;
         Ok(Parsed {
             value: word,
             rest: end.rest,
@@ -52,13 +52,10 @@ impl Entry for EnumWord {
 }
 
 /// An enumeration after its name.
-#[tactic(auto, using(crate::proofs::DesignLaws::enum_word_shrinks), unfolding(crate::specs::Reading::read_words, crate::specs::Reading::read_many_words))]
-pub(crate) fn read_words<'a>(
-    alloc: Global,
-    tokens: Cursor<'a>,
-) -> Result<Parsed<'a, What>, ReadStop>
+#[tactic(auto, using(crate::proofs::DesignLaws::enum_word_shrinks), unfolding(crate::specs::Reading::read_enum, crate::specs::Reading::read_many_words))]
+pub(crate) fn read_enum<'a>(alloc: Global, tokens: Cursor<'a>) -> Result<Parsed<'a, What>, ReadStop>
     ensures shorter { IfOk result (λ r. length r.rest < length tokens.entry) }
-    ensures gives { Gives (seen_read seen_what) result (read_words tokens.entry) }
+    ensures gives { Gives (seen_read seen_what) result (read_enum tokens.entry) }
 {
     let words = read_braced(alloc, tokens)?;
     Ok(Parsed {
@@ -121,7 +118,7 @@ fn read_member<'a>(
 {
     let word = read_member_word(tokens)?;
     let name = read_member_after(alloc, word.value, word.rest)?;
-    let (name, end) = beside(name.value, read_mark(name.rest, b';'))?;
+    let (name, end) = pair_if_ok(name.value, read_mark(name.rest, b';'))?;
     Ok(Parsed {
         value: name,
         rest: end.rest,
@@ -153,7 +150,7 @@ fn with_next_member<'a>(
     ensures gives { Gives (seen_read (seen_list bytes_of)) result
         (read_put read_member with_member (seen_list bytes_of names.entry.value) names.entry.rest) }
 {
-    let (names, next) = beside(names.value, read_member(alloc, names.rest))?;
+    let (names, next) = pair_if_ok(names.value, read_member(alloc, names.rest))?;
     Ok(with(names, next)?)
 }
 
@@ -170,7 +167,7 @@ fn read_members<'a>(
         value: List::new(alloc),
         rest: tokens,
     };
-    while before_close(&names.rest) {
+    while is_next_not_close(&names.rest) {
         names = with_next_member(alloc, names)?;
     }
     Ok(names)
@@ -187,7 +184,7 @@ pub(crate) fn read_interface<'a>(
 {
     let open = read_mark(tokens, b'{')?;
     let ports = read_members(alloc, open.rest)?;
-    let (ports, close) = beside(ports.value, read_mark(ports.rest, b'}'))?;
+    let (ports, close) = pair_if_ok(ports.value, read_mark(ports.rest, b'}'))?;
     Ok(Parsed {
         value: What::Interface { ports },
         rest: close.rest,
@@ -209,13 +206,13 @@ fn read_selected<'a>(alloc: Global, tokens: Cursor<'a>) -> Result<Parsed<'a, Sel
     ensures gives { Gives (seen_read seen_selected) result (read_selected tokens.entry) }
 {
     let cell = read_name(alloc, tokens)?;
-    let (cell, dot) = beside(cell.value, read_mark(cell.rest, b'.'))?;
-    let (cell, interface) = beside(cell, read_name(alloc, dot.rest))?;
+    let (cell, dot) = pair_if_ok(cell.value, read_mark(cell.rest, b'.'))?;
+    let (cell, interface) = pair_if_ok(cell, read_name(alloc, dot.rest))?;
     let selected = Selected {
         cell,
         interface: interface.value,
     };
-    let (selected, end) = beside(selected, read_mark(interface.rest, b';'))?;
+    let (selected, end) = pair_if_ok(selected, read_mark(interface.rest, b';'))?;
     Ok(Parsed {
         value: selected,
         rest: end.rest,
@@ -231,7 +228,7 @@ fn read_selecting<'a>(alloc: Global, tokens: Cursor<'a>) -> Result<Parsed<'a, Se
     let word = read_word(tokens, b"ScanInterface")?;
     let open = read_mark(word.rest, b'{')?;
     let selected = read_selected(alloc, open.rest)?;
-    let (selected, close) = beside(selected.value, read_mark(selected.rest, b'}'))?;
+    let (selected, close) = pair_if_ok(selected.value, read_mark(selected.rest, b'}'))?;
     Ok(Parsed {
         value: selected,
         rest: close.rest,
@@ -249,14 +246,14 @@ impl Entry for LinkInstr {
 
     fn read<'a>(alloc: Global, tokens: Cursor<'a>) -> Result<Parsed<'a, LinkInstr>, ReadStop> {
         let name = read_name(alloc, tokens)?;
-        let (name, open) = beside(name.value, read_mark(name.rest, b'{'))?;
-        let (name, selected) = beside(name, read_selecting(alloc, open.rest))?;
+        let (name, open) = pair_if_ok(name.value, read_mark(name.rest, b'{'))?;
+        let (name, selected) = pair_if_ok(name, read_selecting(alloc, open.rest))?;
         let instr = LinkInstr {
             name,
             cell: selected.value.cell,
             interface: selected.value.interface,
         };
-        let (instr, close) = beside(instr, read_mark(selected.rest, b'}'))?;
+        let (instr, close) = pair_if_ok(instr, read_mark(selected.rest, b'}'))?;
         Ok(Parsed {
             value: instr,
             rest: close.rest,
@@ -272,7 +269,7 @@ fn read_entity<'a>(alloc: Global, tokens: Cursor<'a>) -> Result<Parsed<'a, Small
 {
     let word = read_word(tokens, b"BSDLEntity")?;
     let name = read_name(alloc, word.rest)?;
-    let (name, end) = beside(name.value, read_mark(name.rest, b';'))?;
+    let (name, end) = pair_if_ok(name.value, read_mark(name.rest, b';'))?;
     Ok(Parsed {
         value: name,
         rest: end.rest,
@@ -303,9 +300,9 @@ pub(crate) fn read_link<'a>(alloc: Global, tokens: Cursor<'a>) -> Result<Parsed<
     let kind = read_link_kind(of.rest)?;
     let open = read_mark(kind.rest, b'{')?;
     let entity = read_entity(alloc, open.rest)?;
-    let (entity, instrs) = beside(entity.value, read_many(alloc, entity.rest))?;
-    let close = beside(instrs.value, read_mark(instrs.rest, b'}'));
-    let (entity, (instrs, close)) = beside(entity, close)?;
+    let (entity, instrs) = pair_if_ok(entity.value, read_many(alloc, entity.rest))?;
+    let close = pair_if_ok(instrs.value, read_mark(instrs.rest, b'}'));
+    let (entity, (instrs, close)) = pair_if_ok(entity, close)?;
     Ok(Parsed {
         value: What::Link {
             kind: kind.value,

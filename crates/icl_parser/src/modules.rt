@@ -12,11 +12,11 @@ use crate::entries::{Entry, read_braced, read_next_entry};
 use crate::items::{
     read_alias, read_attribute, read_child, read_mux, read_parameter, read_port, read_register,
 };
-use crate::links::{read_interface, read_link, read_words};
+use crate::links::{read_enum, read_interface, read_link};
 use crate::words::item_word;
 use icl_expressions::{Parsed, ReadStop, read_name, read_word};
 use icl_lexer::{Cursor, Item, ItemKeyword, Module, What};
-use ij_bits::{List, beside};
+use ij_bits::{List, pair_if_ok};
 use ij_text::Place;
 use std::alloc::Global;
 
@@ -60,7 +60,7 @@ fn read_meaning_after<'a>(
         ItemKeyword::OfMux => read_mux(alloc, tokens),
         ItemKeyword::OfChild => read_child(alloc, tokens),
         ItemKeyword::OfAlias => read_alias(alloc, tokens),
-        ItemKeyword::OfEnum => read_words(alloc, tokens),
+        ItemKeyword::OfEnum => read_enum(alloc, tokens),
         ItemKeyword::OfParameter(local) => read_parameter(alloc, local, tokens),
         ItemKeyword::OfAttribute => read_attribute(alloc, tokens),
         ItemKeyword::OfInterface => read_interface(alloc, tokens),
@@ -80,7 +80,7 @@ impl Entry for Item {
     fn read<'a>(alloc: Global, tokens: Cursor<'a>) -> Result<Parsed<'a, Item>, ReadStop> {
         let begin = read_item_begin(tokens)?;
         let name = read_name(alloc, begin.rest)?;
-        let (name, what) = beside(
+        let (name, what) = pair_if_ok(
             name.value,
             read_meaning_after(alloc, begin.value.word, name.rest),
         )?;
@@ -107,7 +107,7 @@ impl Entry for Module {
     fn read<'a>(alloc: Global, tokens: Cursor<'a>) -> Result<Parsed<'a, Module>, ReadStop> {
         let word = read_word(tokens, b"Module")?;
         let name = read_name(alloc, word.rest)?;
-        let (name, items) = beside(name.value, read_braced(alloc, name.rest))?;
+        let (name, items) = pair_if_ok(name.value, read_braced(alloc, name.rest))?;
         Ok(Parsed {
             value: Module {
                 name,

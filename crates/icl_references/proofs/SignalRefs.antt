@@ -6,16 +6,16 @@ use Rattle.ij_text.specs.declared.Place.{Place}
 use Rattle.icl_lexer.specs.Values.{SeenRange, SeenSigWhat, ANumber, APath, SeenSig}
 use Rattle.icl_declarations.specs.Faults.{Answer, refuse_if, each, WidthDiffers, WrongKind}
 use Rattle.icl_declarations.specs.Values.{OpenBits}
-use Rattle.icl_declarations.specs.Expressions.{evaluate, place_in}
+use Rattle.icl_declarations.specs.Expressions.{evaluate, fault_place}
 use Rattle.icl_declarations.specs.Widths.{joined}
 use Rattle.icl_references.specs.declared.hier.Ref.{Ref}
 use Rattle.icl_declarations.specs.Parts.{is_register, is_data_port}
 use Rattle.std.proofs.lemmas.Bool.{eqb-true}
-use Rattle.icl_declarations.specs.Ranges.{width, named_in}
+use Rattle.icl_declarations.specs.Ranges.{width, named_positions}
 use Rattle.icl_frames.specs.FirstPass.{Frame}
 use Rattle.icl_references.specs.Names.{Here, path_from}
 use Rattle.icl_references.specs.Signals.{bit_of, bits_of, is_scan_source, is_data_source, scan_meant}
-use Rattle.icl_references.specs.Signals.{scan_signal, scan_path, scan_named, data_signal, data_signals}
+use Rattle.icl_references.specs.Signals.{scan_signal, scan_path, check_scan_range, data_signal, data_signals}
 use Rattle.icl_references.specs.Signals.{select_signals, alias_signals, data_meant, data_path, alias_meant}
 use Rattle.icl_references.specs.Signals.{alias_path, constants, side_by_side, require_width, lone_width}
 use Rattle.icl_references.specs.Signals.{number_bits}
@@ -32,7 +32,7 @@ module _ (frames : List Frame) (here : Here) (is_here : IsHere frames here) wher
       let a = both (path_from frames here at path) _ r h in
       let b = both (refuse_if (inverted || not (is_scan_source path a.first.member.item.what)) (WrongKind at))
       _ r a.then' in
-      let c = both (scan_named frames here at a.first range) _ r b.then' in
+      let c = both (check_scan_range frames here at a.first range) _ r b.then' in
       subst (IsThere frames) (ok_is (bit_of a.first false 0) r c.then') (bit_there frames a.first false 0
       (path_there frames here at path a.first is_here a.is) (omega arith))
 
@@ -50,7 +50,7 @@ module _ (frames : List Frame) (here : Here) (is_here : IsHere frames here) wher
       let a = both (path_from frames here at path) _ rs h in
       let b = both
       (refuse_if (not (is_data_source path a.first.member.item.what)) (WrongKind at)) _ rs a.then' in
-      let c = both (named_in here.frame.params a.first.member.bounds range) _ rs b.then' in
+      let c = both (named_positions here.frame.params a.first.member.bounds range) _ rs b.then' in
       subst AreThere (ok_is (bits_of a.first inverted c.first) rs c.then')
       (bits_there frames a.first inverted c.first (path_there frames here at path a.first is_here a.is)
       (named_within here.frame.params a.first.member.bounds range c.first c.is))
@@ -67,7 +67,7 @@ module _ (frames : List Frame) (here : Here) (is_here : IsHere frames here) wher
           → data_meant frames here holder wanted s.at s.inverted w ≡ Ok rs → AreThere rs
       by_meant (ANumber e) g =
           let a = both (evaluate here.frame.params s.at e) _ rs g in
-          let b = both (number_bits holder (place_in s.at e) wanted a.first) _ rs a.then' in
+          let b = both (number_bits holder (fault_place s.at e) wanted a.first) _ rs a.then' in
           subst AreThere (ok_is (constants s.inverted b.first) rs b.then')
           (constants_there s.inverted b.first)
       by_meant (APath path range) g = data_path_there s.at s.inverted path range rs g
@@ -115,7 +115,7 @@ module _ (frames : List Frame) (here : Here) (is_here : IsHere frames here) wher
       let a = both (path_from frames here at path) _ rs h in
       let b = both (refuse_if (inverted || not (is_register a.first.member.item.what || is_data_port
       a.first.member.item.what)) (WrongKind at)) _ rs a.then' in
-      let c = both (named_in here.frame.params a.first.member.bounds range) _ rs b.then' in
+      let c = both (named_positions here.frame.params a.first.member.bounds range) _ rs b.then' in
       subst AreThere (ok_is (bits_of a.first false c.first) rs c.then')
       (bits_there frames a.first false c.first (path_there frames here at path a.first is_here a.is)
       (named_within here.frame.params a.first.member.bounds range c.first c.is))

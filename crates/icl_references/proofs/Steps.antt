@@ -7,7 +7,7 @@ use Rattle.ij_text.specs.declared.Place.{Place}
 use Rattle.icl_declarations.specs.Faults.{Answer, Fault, Fails, ◌>>=◌}
 use Rattle.icl_declarations.proofs.Each.{fails_along}
 use Rattle.icl_frames.specs.FirstPass.{Frame}
-use Rattle.icl_references.specs.Names.{Here, CellMember, named, inside, path_from}
+use Rattle.icl_references.specs.Names.{Here, CellMember, named, cell_of_instance, path_from}
 use Rattle.icl_references.specs.Targets.{child_named}
 use Rattle.icl_references.proofs.Everywhere.{left_at}
 
@@ -21,9 +21,11 @@ first_name : (frames : List Frame) (here : Here) (at : Place)
     → path_from frames here at (name ∷ (names ++ last ∷ []))
     ≡ (child_named frames here at name >>= λ child. path_from frames child at (names ++ last ∷ []))
 first_name frames here at name [] last = one_after_another (named here.frame at name)
-    (λ m. inside frames here at m.item.name m.item.what) (λ child. path_from frames child at (last ∷ []))
+    (λ m. cell_of_instance frames here at m.item.name m.item.what) (λ child. path_from frames child at (last
+    ∷ []))
 first_name frames here at name (next ∷ names) last =
-    one_after_another (named here.frame at name) (λ m. inside frames here at m.item.name m.item.what)
+    one_after_another (named here.frame at name) (λ m. cell_of_instance frames here at m.item.name
+    m.item.what)
     (λ child. path_from frames child at (next ∷ (names ++ last ∷ [])))
 
 -- a name was an instance

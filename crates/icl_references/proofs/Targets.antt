@@ -16,10 +16,11 @@ use Rattle.icl_declarations.specs.declared.ranges.Stretch.{Stretch}
 use Rattle.icl_references.specs.declared.hier.Ref.{Ref}
 use Rattle.icl_references.specs.declared.hier.Ref.TheVariants.{Fixed, Bit}
 use Rattle.icl_declarations.specs.Ranges.{width, has_index, position_of, runs_along, position_range, whole}
-use Rattle.icl_declarations.specs.Ranges.{indices, named_in, one_bit}
+use Rattle.icl_declarations.specs.Ranges.{indices, named_positions, one_bit}
 use Rattle.icl_frames.specs.FirstPass.{Frame}
 use Rattle.icl_references.specs.Names.{Here, here_of, Member, members_from, members, member_that}
-use Rattle.icl_references.specs.Names.{known_member, named, child_cell, known_cell, inside, CellMember}
+use Rattle.icl_references.specs.Names.{known_member, named, child_cell, known_cell, cell_of_instance}
+use Rattle.icl_references.specs.Names.{CellMember}
 use Rattle.icl_references.specs.Names.{path_from}
 use Rattle.icl_references.specs.Signals.{bit_of, bits_of}
 use Rattle.icl_frames.proofs.Answering.{both, ok_is}
@@ -139,7 +140,7 @@ known_cell_there frames at cell name h e = by_child (child_cell frames cell name
     by_child (Some c) f g = subst (IsHere frames) (ok_is (here_of c) h g) (child_there frames cell name c f)
 
 pub inside_there : (frames : List Frame) (here : Here) (at : Place) (name : List ℕ) (what : SeenWhat)
-    (h : Here) → inside frames here at name what ≡ Ok h → IsHere frames h
+    (h : Here) → cell_of_instance frames here at name what ≡ Ok h → IsHere frames h
 inside_there frames here at name (AChild module' binds) h e = known_cell_there frames at here.number name h e
 inside_there frames here at name (APort kind range props) h e = absurd cc
 inside_there frames here at name (ARegister range props) h e = absurd cc
@@ -161,7 +162,7 @@ path_there frames here at (name ∷ []) t i h =
     subst (IsTarget frames) (ok_is _ t a.then') there
 path_there frames here at (name ∷ next ∷ names) t i h =
     let a = both (named here.frame at name) _ t h in
-    let b = both (inside frames here at a.first.item.name a.first.item.what) _ t a.then' in
+    let b = both (cell_of_instance frames here at a.first.item.name a.first.item.what) _ t a.then' in
     path_there frames b.first at (next ∷ names) t (inside_there frames here at _ _ b.first b.is) b.then'
 
 -- ---- positions
@@ -199,7 +200,7 @@ stretch_within at b i s h = by_test (runs_along b i) refl h
     by_test false e g = absurd cc
 
 pub named_within : (ps : Params) (b : Bounds) (range : Option SeenRange) (s : Stretch)
-    → named_in ps b range ≡ Ok s → IsWithin b s
+    → named_positions ps b range ≡ Ok s → IsWithin b s
 named_within ps b None s h = subst (IsWithin b) (ok_is (whole b) s h) (omega arith)
 named_within ps b (Some r) s h =
     let a = both (indices ps r) (position_range r.at b) s h in stretch_within r.at b a.first s a.then'

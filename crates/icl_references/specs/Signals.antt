@@ -11,7 +11,7 @@ use Rattle.icl_declarations.specs.Faults.{Answer, ◌>>=◌, refuse_if, each, ov
 use Rattle.icl_declarations.specs.Faults.{WrongKind}
 use Rattle.icl_declarations.specs.Values.{OpenBits, ParamValue, AnInteger, SomeBits, AText, Params}
 use Rattle.icl_declarations.specs.Values.{integer_bits}
-use Rattle.icl_declarations.specs.Expressions.{evaluate, place_in}
+use Rattle.icl_declarations.specs.Expressions.{evaluate, fault_place}
 use Rattle.icl_declarations.specs.Widths.{fit_unsized, fit_sized, joined}
 use Rattle.icl_references.specs.declared.hier.Ref.{Ref}
 use Rattle.icl_references.specs.declared.hier.Ref.TheVariants.{Fixed, Bit}
@@ -19,7 +19,7 @@ use Rattle.icl_declarations.specs.Parts.{is_scan_in, is_scan_out, is_data_in, is
 use Rattle.icl_declarations.specs.Parts.{is_register, is_mux, is_data_port}
 use Rattle.icl_declarations.specs.declared.ranges.Bounds.{Bounds}
 use Rattle.icl_declarations.specs.declared.ranges.Stretch.{Stretch}
-use Rattle.icl_declarations.specs.Ranges.{width, positions, indices, named_in}
+use Rattle.icl_declarations.specs.Ranges.{width, positions, indices, named_positions}
 use Rattle.icl_frames.specs.FirstPass.{Frame}
 use Rattle.icl_references.specs.Names.{Here, CellMember, path_from}
 
@@ -99,20 +99,21 @@ module _ (frames : List Frame) (here : Here) where
 
   -- ---- scan sources
 
-  abbrev pub register_named : Place → Bounds → Option SeenRange → Answer (Unit {0})
-  register_named at b None = Ok tt
-  register_named at b (Some r) = indices params r >>= λ i. refuse_if (not (is_scan_out_of b i)) (WrongKind at)
+  abbrev pub check_register_range : Place → Bounds → Option SeenRange → Answer (Unit {0})
+  check_register_range at b None = Ok tt
+  check_register_range at b (Some r) = indices params r >>= λ i. refuse_if (not (is_scan_out_of b i))
+      (WrongKind at)
 
-  abbrev pub scan_named : Place → CellMember → Option SeenRange → Answer (Unit {0})
-  scan_named at t range =
-      cond (is_register t.member.item.what) (register_named at t.member.bounds range)
-      (named_in params t.member.bounds range >>= λ s. Ok tt)
+  abbrev pub check_scan_range : Place → CellMember → Option SeenRange → Answer (Unit {0})
+  check_scan_range at t range =
+      cond (is_register t.member.item.what) (check_register_range at t.member.bounds range)
+      (named_positions params t.member.bounds range >>= λ s. Ok tt)
 
   abbrev pub scan_path : Place → Bool → List (List ℕ) → Option SeenRange → Answer Ref
   scan_path at inverted path range = do
     t ← path_from frames here at path
     kind ← refuse_if (inverted || not (is_scan_source path t.member.item.what)) (WrongKind at)
-    end ← scan_named at t range
+    end ← check_scan_range at t range
     Ok (bit_of t false 0)
 
   abbrev pub scan_meant : Place → Bool → SeenSigWhat → Answer Ref
@@ -128,12 +129,12 @@ module _ (frames : List Frame) (here : Here) where
   data_path at inverted path range = do
     t ← path_from frames here at path
     kind ← refuse_if (not (is_data_source path t.member.item.what)) (WrongKind at)
-    s ← named_in params t.member.bounds range
+    s ← named_positions params t.member.bounds range
     Ok (bits_of t inverted s)
 
   abbrev pub data_meant : Place → Option ℕ → Place → Bool → SeenSigWhat → Answer (List Ref)
   data_meant holder wanted at inverted (ANumber e) = evaluate params at e
-      >>= λ value. number_bits holder (place_in at e) wanted value >>= λ bits. Ok (constants inverted bits)
+      >>= λ value. number_bits holder (fault_place at e) wanted value >>= λ bits. Ok (constants inverted bits)
   data_meant holder wanted at inverted (APath path range) = data_path at inverted path range
 
   unfoldable pub data_signal : Place → Option ℕ → SeenSig → Answer (List Ref)
@@ -155,7 +156,7 @@ module _ (frames : List Frame) (here : Here) where
     t ← path_from frames here at path
     kind ← refuse_if
         (inverted || not (is_register t.member.item.what || is_data_port t.member.item.what)) (WrongKind at)
-    s ← named_in params t.member.bounds range
+    s ← named_positions params t.member.bounds range
     Ok (bits_of t false s)
 
   abbrev pub alias_meant : Place → Bool → SeenSigWhat → Answer (List Ref)

@@ -35,7 +35,7 @@ fn child_named(
         (child_named (frames_of tables.now) (here_in tables.now here) at name.now) }
 {
     let member = tables.named(alloc, here, at, name)?;
-    tables.inside(here, at, member.item)
+    tables.cell_of_instance(here, at, member.item)
 }
 
 /// A part of a cell by its name.

@@ -9,7 +9,8 @@ ghost use Rattle.icl_references.specs.Roles.{seen_refs};
 ghost use Rattle.icl_references.specs.Signals.{alias_meant, alias_path, alias_signals, require_width};
 ghost use Rattle.icl_references.specs.Signals.{control_meant, control_signals, data_meant, data_path};
 ghost use Rattle.icl_references.specs.Signals.{data_signal, data_signals, is_scan_out_of, lone_width};
-ghost use Rattle.icl_references.specs.Signals.{register_named, scan_named, scan_path, scan_signal};
+ghost use Rattle.icl_references.specs.Signals.{check_register_range, check_scan_range, scan_path};
+ghost use Rattle.icl_references.specs.Signals.{scan_signal};
 ghost use Rattle.icl_references.specs.Signals.{select_signals};
 ghost use Rattle.icl_references.specs.Tables.{IsHere, frames_of, here_in};
 ghost use Rattle.icl_references.specs.Targets.{seen_target};
@@ -20,8 +21,8 @@ use crate::paths::{CellMember, path_from};
 use crate::sources::{is_alias_source, is_data_source, is_scan_source};
 use crate::tables::Tables;
 use crate::values::number_bits;
-use icl_declarations::{ElabFault, evaluate, place_in};
-use icl_frames::{Bounds, indices, is_register, named_in};
+use icl_declarations::{ElabFault, evaluate, fault_place};
+use icl_frames::{Bounds, indices, is_register, named_positions};
 use icl_lexer::{Expr, Range, Sig, SigWhat, SmallText};
 use ij_bits::List;
 use ij_text::Place;
@@ -37,7 +38,7 @@ fn is_scan_out_of(b: Bounds, i: Bounds) -> bool
 }
 
 /// Looks at the range after a register where its scan-out is wanted.
-fn register_named(
+fn check_register_range(
     alloc: Global,
     tables: &Tables,
     here: u32,
@@ -46,7 +47,7 @@ fn register_named(
     range: &Option<Range>,
 ) -> Result<(), ElabFault>
     requires { IsHere tables.now here }
-    ensures { Gives same result (register_named (frames_of tables.now)
+    ensures { Gives same result (check_register_range (frames_of tables.now)
         (here_in tables.now here) at b (option_map seen_range range.now)) }
 {
     match range {
@@ -63,7 +64,7 @@ fn register_named(
 }
 
 /// Looks at the range after what a scan signal names.
-fn scan_named(
+fn check_scan_range(
     alloc: Global,
     tables: &Tables,
     here: u32,
@@ -72,13 +73,13 @@ fn scan_named(
     range: &Option<Range>,
 ) -> Result<(), ElabFault>
     requires { IsHere tables.now here }
-    ensures { Gives same result (scan_named (frames_of tables.now) (here_in tables.now here) at
+    ensures { Gives same result (check_scan_range (frames_of tables.now) (here_in tables.now here) at
         (seen_target tables.now t.now) (option_map seen_range range.now)) }
 {
     if is_register(&t.member.item.what) {
-        register_named(alloc, tables, here, at, t.member.bounds, range)
+        check_register_range(alloc, tables, here, at, t.member.bounds, range)
     } else {
-        named_in(alloc, tables.params(here), t.member.bounds, range)?;
+        named_positions(alloc, tables.params(here), t.member.bounds, range)?;
         Ok(())
     }
 }
@@ -101,7 +102,7 @@ fn scan_path(
     if inverted || !is_scan_source(path, &t.member.item.what) {
         return Err(ElabFault::WrongKind { at });
     }
-    scan_named(alloc, tables, here, at, &t, range)?;
+    check_scan_range(alloc, tables, here, at, &t, range)?;
     Ok(Ref::Bit {
         cell: t.cell,
         part: t.member.part,
@@ -153,7 +154,7 @@ fn data_path(
     if !is_data_source(path, &t.member.item.what) {
         return Err(ElabFault::WrongKind { at });
     }
-    let s = named_in(alloc, tables.params(here), t.member.bounds, range)?;
+    let s = named_positions(alloc, tables.params(here), t.member.bounds, range)?;
     let refs = bits_between(alloc, t.cell, t.member.part, inverted, s)?;
     Ok(refs)
 }
@@ -173,7 +174,7 @@ fn data_number(
         (here_in tables.now here) holder wanted sig.now.at sig.now.inverted (ANumber (seen_expr e.now))) }
 {
     let value = evaluate(alloc, tables.params(here), e, sig.at)?;
-    let bits = number_bits(alloc, holder, place_in(e, sig.at), wanted, value)?;
+    let bits = number_bits(alloc, holder, fault_place(e, sig.at), wanted, value)?;
     let refs = constants(alloc, sig.inverted, &bits)?;
     Ok(refs)
 }
@@ -305,7 +306,7 @@ fn alias_path(
     if inverted || !is_alias_source(&t.member.item.what) {
         return Err(ElabFault::WrongKind { at });
     }
-    let s = named_in(alloc, tables.params(here), t.member.bounds, range)?;
+    let s = named_positions(alloc, tables.params(here), t.member.bounds, range)?;
     let refs = bits_between(alloc, t.cell, t.member.part, false, s)?;
     Ok(refs)
 }

@@ -6,7 +6,7 @@ ghost use Rattle.icl_declarations.specs.Faults.{Gives};
 ghost use Rattle.icl_declarations.specs.Tables.{seen_table};
 ghost use Rattle.icl_declarations.specs.Ranges.{one_bit, width};
 ghost use Rattle.icl_frames.specs.SeenFrames.{seen_frame};
-ghost use Rattle.icl_references.specs.Names.{child_cell, inside, known_cell, members, named};
+ghost use Rattle.icl_references.specs.Names.{child_cell, cell_of_instance, known_cell, members, named};
 ghost use Rattle.icl_references.specs.Tables.{AreAllChildren, AreCellTables, AreEmpty, AreTables};
 ghost use Rattle.icl_references.specs.Tables.{IsCellTable, IsChildAdded, IsFrameAdded, IsHere, frames_in};
 ghost use Rattle.icl_references.specs.Tables.{frames_of, here_in, seen_member};
@@ -264,10 +264,10 @@ impl<'a> Tables<'a> {
     }
 
     /// The cell that a part is, by its number. `WrongKind` where the part is no instance.
-    pub fn inside(&self, here: u32, at: Place, item: &Item) -> Result<u32, ElabFault>
+    pub fn cell_of_instance(&self, here: u32, at: Place, item: &Item) -> Result<u32, ElabFault>
         requires { IsHere self.now here }
         ensures there { IfOk result (λ child. IsHere self.now child) }
-        ensures gives { Gives (here_in self.now) result (inside (frames_of self.now)
+        ensures gives { Gives (here_in self.now) result (cell_of_instance (frames_of self.now)
             (here_in self.now here) at item.now.name.items (seen_what item.now.what)) }
     {
         match &item.what {

@@ -23,7 +23,7 @@ use crate::registers::registers;
 use crate::things::things;
 use crate::wiring::{Wiring, wiring_of};
 use icl_elab::{Hier, Ref};
-use ij_bits::{List, OutOfMemory, beside};
+use ij_bits::{List, OutOfMemory, pair_if_ok};
 use ij_text::{Name, Place};
 use net_graph::{Mux, Net, Reg, Thing};
 use std::alloc::Global;
@@ -71,12 +71,12 @@ fn network_from(alloc: Global, wiring: &Wiring, at: Place, exit: Ref) -> Result<
 {
     let out = scan_from(wiring, at, exit)?;
     let regs = own_registers(alloc, wiring)?;
-    let scanned = beside(regs, own_muxes(alloc, wiring))?;
-    let (scanned, insts) = beside(scanned, instruments(alloc, wiring))?;
-    let nodes = beside(insts, nodes_of(alloc, wiring.hier));
-    let (scanned, named) = beside(scanned, nodes)?;
-    let things = beside(named, own_things(alloc, wiring));
-    let (scanned, (named, things)) = beside(scanned, things)?;
+    let scanned = pair_if_ok(regs, own_muxes(alloc, wiring))?;
+    let (scanned, insts) = pair_if_ok(scanned, instruments(alloc, wiring))?;
+    let nodes = pair_if_ok(insts, nodes_of(alloc, wiring.hier));
+    let (scanned, named) = pair_if_ok(scanned, nodes)?;
+    let things = pair_if_ok(named, own_things(alloc, wiring));
+    let (scanned, (named, things)) = pair_if_ok(scanned, things)?;
     Ok(Net {
         regs: scanned.0,
         muxes: scanned.1,

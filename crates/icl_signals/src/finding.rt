@@ -6,7 +6,7 @@ ghost use Rattle.icl_signals.specs.Found.{IsFound, AreFound, turned_end};
 
 use crate::entries::next;
 use crate::following::{NextBit, one_move};
-use crate::found::{Found, Note, known, same_wire, turned_end, with_note};
+use crate::found::{Found, Note, known_end, same_wire, turned_end, with_note};
 use crate::parts::{is_wired, width_of};
 use crate::wires::{End, Wire};
 use crate::wiring::Wiring;
@@ -15,7 +15,7 @@ use ij_bits::OutOfMemory;
 use std::alloc::Global;
 
 /// Where a trace ends that goes on, after this many moves, with a bit whose end is known.
-fn after(moves: u64, inverted: bool, found: Found) -> Option<Found>
+fn end_after_moves(moves: u64, inverted: bool, found: Found) -> Option<Found>
     ensures looks { IfSome result (λ f. f.looks ≡ moves + found.looks) }
     ensures end { IfSome result (λ f. f.end ≡ turned_end inverted found.end) }
 {
@@ -38,8 +38,8 @@ fn find(wiring: &Wiring, ends: &[Option<Note>], start: Wire) -> Option<Found>
     let mut marked = start;
     let mut until = 1u64;
     for moves in 0..u64::MAX {
-        if let Some(found) = known(wiring, ends, wire) {
-            return after(moves, inverted, found);
+        if let Some(found) = known_end(wiring, ends, wire) {
+            return end_after_moves(moves, inverted, found);
         }
         match one_move(wiring, inverted, wire) {
             NextBit::Ended(end) => {
@@ -87,7 +87,7 @@ fn add_ends_along(
     let mut wire = start;
     let mut found = found;
     for _bit in 0..wiring.looks {
-        if known(wiring, ends.as_slice(), wire).is_some() {
+        if known_end(wiring, ends.as_slice(), wire).is_some() {
             return ends;
         }
         match one_move(wiring, false, wire) {

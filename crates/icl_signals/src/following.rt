@@ -9,7 +9,7 @@ ghost use Rattle.icl_signals.specs.Moves.{is_entry};
 ghost use Rattle.icl_signals.specs.Traces.{follow, trace, from_ref, from_move};
 ghost use Rattle.std.specs.Option.{option_map};
 
-use crate::found::{known, turned_end};
+use crate::found::{known_end, turned_end};
 use crate::parts::{is_top, part_at};
 use crate::wires::{Driver, End, Wire};
 use crate::wiring::Wiring;
@@ -183,7 +183,7 @@ fn end_of(wiring: &Wiring, inverted: bool, wire: Wire) -> End
     ensures value { result ≡ follow (cells_of wiring.now) wiring.now.entry wiring.now.looks inverted wire }
     ensures told { IsTrueEnd (cells_of wiring.now) wiring.now.entry result }
 {
-    match known(wiring, wiring.ends.as_slice(), wire) {
+    match known_end(wiring, wiring.ends.as_slice(), wire) {
         Some(found) => {
             if found.looks <= wiring.looks {
                 turned_end(inverted, found.end)

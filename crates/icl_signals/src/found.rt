@@ -52,7 +52,7 @@ pub(crate) fn turned_end(turned: bool, end: End) -> End
 }
 
 /// Where the trace of a bit ends, if that was found. Takes no memory.
-pub(crate) fn known(wiring: &Wiring, ends: &[Option<Note>], wire: Wire) -> Option<Found>
+pub(crate) fn known_end(wiring: &Wiring, ends: &[Option<Note>], wire: Wire) -> Option<Found>
     requires { AreFound (cells_of wiring.now) wiring.now.entry ends.now }
     ensures { IfSome result (λ f. IsFound (cells_of wiring.now) wiring.now.entry wire f) }
 {

@@ -17,7 +17,7 @@ use crate::entries::{PartAt, entries_at, next, own_refs};
 use crate::parts::{Kind, is_instrument, width_of};
 use crate::wiring::Wiring;
 use icl_elab::{Cell, Ref};
-use ij_bits::{List, OutOfMemory, beside};
+use ij_bits::{List, OutOfMemory, pair_if_ok};
 use ij_text::{Place, name_of};
 use net_graph::{Inst, PortIn, PortOut, Sig};
 use std::alloc::Global;
@@ -50,7 +50,7 @@ fn input_of(alloc: Global, wiring: &Wiring, cell: u32, e: PartAt) -> Result<Port
     let refs = own_refs(alloc, cell, e.part, e.what)?;
     let bits = input_bits(alloc, wiring, e.what.at, refs.as_slice());
     drop(refs);
-    let (bits, name) = beside(bits?, name_of(alloc, e.what.name.as_slice()))?;
+    let (bits, name) = pair_if_ok(bits?, name_of(alloc, e.what.name.as_slice()))?;
     Ok(PortIn { name, bits })
 }
 
@@ -117,7 +117,7 @@ fn instrument_of(
     let parts = entries_at(alloc, Kind::Input, number, cell)?;
     let ins = inputs(alloc, wiring, number, parts.as_slice());
     drop(parts);
-    let (ins, outs) = beside(ins?, own_outputs(alloc, number, cell))?;
+    let (ins, outs) = pair_if_ok(ins?, own_outputs(alloc, number, cell))?;
     Ok(Inst {
         node: number,
         ins,

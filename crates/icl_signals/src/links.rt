@@ -108,7 +108,7 @@ fn instructions<'a>(hier: &'a Hier, link: &Name) -> &'a [(Name, u32, u32)]
 }
 
 /// Whether a part of a cell is a port of this side.
-fn passes(hier: &Hier, side: Side, cell: u32, port: u32) -> bool
+fn is_port_of_side(hier: &Hier, side: Side, cell: u32, port: u32) -> bool
     ensures { result ≡ passes (test_of_side side) (part_at (seen_hier hier.now) cell port) }
 {
     match part_at(hier, cell, port) {
@@ -118,13 +118,13 @@ fn passes(hier: &Hier, side: Side, cell: u32, port: u32) -> bool
 }
 
 /// The one port of this side among some parts of a cell, however often it is there.
-fn only_among(hier: &Hier, side: Side, cell: u32, ports: &[u32]) -> Option<u32>
+fn only_port_among(hier: &Hier, side: Side, cell: u32, ports: &[u32]) -> Option<u32>
     ensures { result ≡ only
         (filter (λ port. passes (test_of_side side) (part_at (seen_hier hier.now) cell port)) ports.now) }
 {
     let mut found = None;
     for port in ports {
-        if passes(hier, side, cell, *port) {
+        if is_port_of_side(hier, side, cell, *port) {
             match found {
                 None => found = Some(*port),
                 Some(other) => {
@@ -144,7 +144,7 @@ fn only_port(hier: &Hier, side: Side, s: &(Name, u32, u32)) -> Option<u32>
 {
     match part_at(hier, s.1, s.2) {
         Some(part) => match &part.body {
-            Body::Interface { ports } => only_among(hier, side, s.1, ports.as_slice()),
+            Body::Interface { ports } => only_port_among(hier, side, s.1, ports.as_slice()),
             _ => None,
         },
         None => None,

@@ -14,7 +14,7 @@ use crate::ends::{scan_from, select_from};
 use crate::entries::PartAt;
 use crate::wiring::Wiring;
 use icl_elab::{Body, Ref};
-use ij_bits::{List, Tern, beside};
+use ij_bits::{List, Tern, pair_if_ok};
 use ij_text::{Place, name_of};
 use net_graph::{BitId, Mux, Row};
 use std::alloc::Global;
@@ -85,9 +85,9 @@ pub(crate) fn mux_of(alloc: Global, wiring: &Wiring, e: PartAt) -> Result<Mux, C
         } => {
             let select = select(alloc, wiring, part.at, refs.as_slice())?;
             let rows = rows(alloc, wiring, part.at, choices.as_slice());
-            let (select, rows) = beside(select, rows)?;
-            let name = beside(rows, name_of(alloc, part.name.as_slice()));
-            let (select, (rows, name)) = beside(select, name)?;
+            let (select, rows) = pair_if_ok(select, rows)?;
+            let name = pair_if_ok(rows, name_of(alloc, part.name.as_slice()));
+            let (select, (rows, name)) = pair_if_ok(select, name)?;
             Ok(Mux {
                 select,
                 rows,

@@ -10,7 +10,7 @@ use ij_bits::OutOfMemory;
 use std::alloc::Global;
 
 /// One more, if there is room for it.
-fn more(count: u32, is_one: bool) -> Result<u32, OutOfMemory>
+fn count_if(count: u32, is_one: bool) -> Result<u32, OutOfMemory>
     ensures { IfOk result (λ next. next ≡ count + one_if is_one) }
 {
     if !is_one {
@@ -45,7 +45,7 @@ fn counts_before(
     let mut next = count;
     for part in parts {
         numbers.push(next)?;
-        next = more(next, is_of(kind, &part.body))?;
+        next = count_if(next, is_of(kind, &part.body))?;
     }
     Ok(Before {
         numbers,
@@ -54,7 +54,7 @@ fn counts_before(
 }
 
 /// For each part of each cell how many of a kind stand before it in the hierarchy.
-pub(crate) fn numbers_of(
+pub(crate) fn parts_of_kind_before(
     alloc: Global,
     kind: Kind,
     cells: &[Cell],
@@ -73,7 +73,7 @@ pub(crate) fn numbers_of(
 }
 
 /// For each part of each cell how many outputs stand before it in that cell.
-pub(crate) fn outputs_of(alloc: Global, cells: &[Cell]) -> Result<Vec<Vec<u32>>, OutOfMemory>
+pub(crate) fn outputs_before(alloc: Global, cells: &[Cell]) -> Result<Vec<Vec<u32>>, OutOfMemory>
     ensures { IfOk result (λ table. map (λ row. row.items) table.items
         ≡ map (λ c. before (is_of Kind.Output) 0 c.parts) (map seen_cell cells.now)) }
 {
@@ -86,14 +86,14 @@ pub(crate) fn outputs_of(alloc: Global, cells: &[Cell]) -> Result<Vec<Vec<u32>>,
 }
 
 /// For each cell how many instruments stand before it.
-pub(crate) fn instruments_of(alloc: Global, flags: &[bool]) -> Result<Vec<u32>, OutOfMemory>
+pub(crate) fn instruments_before(alloc: Global, flags: &[bool]) -> Result<Vec<u32>, OutOfMemory>
     ensures { IfOk result (λ numbers. numbers.items ≡ before (λ b. b) 0 flags.now) }
 {
     let mut numbers = Vec::new(alloc);
     let mut next = 0;
     for flag in flags {
         numbers.push(next)?;
-        next = more(next, *flag)?;
+        next = count_if(next, *flag)?;
     }
     Ok(numbers)
 }

@@ -2,7 +2,7 @@
 ghost use Rattle.std.specs.Prelude.{◌≡◌, map, slice_get, IfOk};
 ghost use Rattle.std.specs.List.{list_any};
 ghost use Rattle.std.specs.Option.{option_map};
-ghost use Rattle.icl_elab.specs.WellFormed.{is_data_port, is_not_of_instrument, is_instrument};
+ghost use Rattle.icl_elab.specs.WellFormed.{is_data_port, is_barred_in_instrument, is_instrument};
 ghost use Rattle.icl_references.specs.Roles.{part_at, part_width, seen_body, seen_part, seen_cell, seen_hier};
 ghost use Rattle.icl_signals.specs.Moves.{is_top};
 ghost use Rattle.icl_signals.specs.Kinds.{is_wired, test_of};
@@ -115,8 +115,8 @@ fn is_data_port(body: &Body) -> bool
 }
 
 /// What an instrument may not have.
-fn is_not_of_instrument(body: &Body) -> bool
-    ensures { result ≡ is_not_of_instrument (seen_body body.now) }
+fn is_barred_in_instrument(body: &Body) -> bool
+    ensures { result ≡ is_barred_in_instrument (seen_body body.now) }
 {
     match body {
         Body::ScanIn { .. } | Body::ScanOut { .. } | Body::Register { .. } => true,
@@ -137,11 +137,11 @@ fn has_data_port(parts: &[Part]) -> bool
     false
 }
 
-fn has_more(parts: &[Part]) -> bool
-    ensures { result ≡ list_any (λ p. is_not_of_instrument p.role) (map seen_part parts.now) }
+fn has_barred_in_instrument(parts: &[Part]) -> bool
+    ensures { result ≡ list_any (λ p. is_barred_in_instrument p.role) (map seen_part parts.now) }
 {
     for part in parts {
-        if is_not_of_instrument(&part.body) {
+        if is_barred_in_instrument(&part.body) {
             return true;
         }
     }
@@ -154,7 +154,7 @@ pub(crate) fn is_instrument(cell: &Cell) -> bool
     ensures { result ≡ is_instrument (seen_cell cell.now) }
 {
     let parts = cell.parts.as_slice();
-    cell.parent.is_some() && has_data_port(parts) && !has_more(parts)
+    cell.parent.is_some() && has_data_port(parts) && !has_barred_in_instrument(parts)
 }
 
 /// Which cells are instruments.

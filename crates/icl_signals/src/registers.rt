@@ -20,7 +20,7 @@ use crate::numbers::number_at;
 use crate::parts::width_of;
 use crate::wiring::Wiring;
 use icl_elab::{Body, Ref};
-use ij_bits::{List, OutOfMemory, beside};
+use ij_bits::{List, OutOfMemory, pair_if_ok};
 use ij_text::Place;
 use net_graph::{Point, Reg, Sig};
 use std::alloc::Global;
@@ -110,7 +110,7 @@ pub(crate) fn register_of(alloc: Global, wiring: &Wiring, e: PartAt) -> Result<R
             let from = scan_source(wiring, part.at, *scan)?;
             let width = width_of(part)?;
             let capture = captures(alloc, wiring, part.at, width, capture)?;
-            let (capture, reset) = beside(capture, resets(alloc, width, reset))?;
+            let (capture, reset) = pair_if_ok(capture, resets(alloc, width, reset))?;
             Ok(Reg {
                 width,
                 from,

@@ -14,7 +14,7 @@ use crate::numbers::number_at;
 use crate::parts::part_at;
 use crate::wiring::Wiring;
 use icl_elab::{Body, Part, Ref};
-use ij_bits::{List, OutOfMemory, beside};
+use ij_bits::{List, OutOfMemory, pair_if_ok};
 use ij_text::name_of;
 use net_graph::{BitId, Spot, Spots, Thing};
 use std::alloc::Global;
@@ -89,9 +89,9 @@ fn thing_of(alloc: Global, wiring: &Wiring, e: PartAt) -> Result<Thing, OutOfMem
         Body::Alias { refs } => named_spots(alloc, wiring, refs.as_slice())?,
         _ => own_spots(alloc, wiring, e)?,
     };
-    let (bits, name) = beside(bits, name_of(alloc, part.name.as_slice()))?;
-    let words = beside(name, words_copy(alloc, part));
-    let (bits, (name, words)) = beside(bits, words)?;
+    let (bits, name) = pair_if_ok(bits, name_of(alloc, part.name.as_slice()))?;
+    let words = pair_if_ok(name, words_copy(alloc, part));
+    let (bits, (name, words)) = pair_if_ok(bits, words)?;
     Ok(Thing {
         node: e.cell,
         name,

@@ -6,12 +6,12 @@ ghost use Rattle.icl_signals.specs.Kinds.{before, is_of, numbers_from};
 ghost use Rattle.icl_signals.specs.Traces.{signal_bits};
 
 use crate::found::Note;
-use crate::numbers::{instruments_of, numbers_of, outputs_of};
+use crate::numbers::{instruments_before, outputs_before, parts_of_kind_before};
 use crate::parts::{Kind, instrument_flags, width};
 use crate::places::{Places, places_of};
 use crate::wires::Wire;
 use icl_elab::{Cell, Hier, Part};
-use ij_bits::{OutOfMemory, beside};
+use ij_bits::{OutOfMemory, pair_if_ok};
 use std::alloc::Global;
 
 /// What following a signal looks at, made once for a network.
@@ -97,12 +97,15 @@ fn part_numbers(alloc: Global, cells: &[Cell]) -> Result<PartNumbers, OutOfMemor
     ensures outputs { IfOk result (λ n. map (λ row. row.items) n.outputs.items
         ≡ map (λ c. before (is_of Kind.Output) 0 c.parts) (map seen_cell cells.now)) }
 {
-    let registers = numbers_of(alloc, Kind::Register, cells)?;
-    let (registers, muxes) = beside(registers, numbers_of(alloc, Kind::Mux, cells))?;
-    let things = beside(muxes, numbers_of(alloc, Kind::Thing, cells));
-    let (registers, (muxes, things)) = beside(registers, things)?;
-    let outputs = beside(things, outputs_of(alloc, cells));
-    let (registers, (muxes, (things, outputs))) = beside(registers, beside(muxes, outputs))?;
+    let registers = parts_of_kind_before(alloc, Kind::Register, cells)?;
+    let (registers, muxes) = pair_if_ok(registers, parts_of_kind_before(alloc, Kind::Mux, cells))?;
+    let things = pair_if_ok(muxes, parts_of_kind_before(alloc, Kind::Thing, cells));
+    let (registers, (muxes, things)) = pair_if_ok(registers, things)?;
+    let outputs = pair_if_ok(things, outputs_before(alloc, cells));
+    let (registers, (muxes, (things, outputs))) = pair_if_ok(
+        registers,
+        pair_if_ok(muxes, outputs),
+    )?;
     Ok(PartNumbers {
         registers,
         muxes,
@@ -125,12 +128,15 @@ pub(crate) fn wiring_of<'a>(
     let cells = hier.cells.as_slice();
     let looks = checked_sum(count_bits(cells)?, 1)?;
     let instruments = instrument_flags(alloc, cells)?;
-    let numbers = instruments_of(alloc, instruments.as_slice());
-    let (instruments, numbers) = beside(instruments, numbers)?;
-    let parts = beside(numbers, part_numbers(alloc, cells));
-    let (instruments, (numbers, parts)) = beside(instruments, parts)?;
-    let places = beside(parts, places_of(alloc, cells));
-    let (instruments, (numbers, (parts, places))) = beside(instruments, beside(numbers, places))?;
+    let numbers = instruments_before(alloc, instruments.as_slice());
+    let (instruments, numbers) = pair_if_ok(instruments, numbers)?;
+    let parts = pair_if_ok(numbers, part_numbers(alloc, cells));
+    let (instruments, (numbers, parts)) = pair_if_ok(instruments, parts)?;
+    let places = pair_if_ok(parts, places_of(alloc, cells));
+    let (instruments, (numbers, (parts, places))) = pair_if_ok(
+        instruments,
+        pair_if_ok(numbers, places),
+    )?;
     Ok(Wiring {
         hier,
         instruments,

@@ -5,7 +5,7 @@ ghost use Rattle.icl_lexer.specs.Views.{seen_design};
 ghost use Rattle.net_graph.specs.Nets.{IsNet};
 
 use icl_elab::elaborate;
-use icl_frames::designs_are_written;
+use icl_frames::designs_have_icl_names;
 use icl_lexer::{Design, lex, tokens_are_in_the_text};
 use icl_parser::parse;
 use icl_signals::connect;
@@ -18,7 +18,7 @@ fn design_of(alloc: Global, text: &[u8]) -> Result<Design, &'static str>
     requires { length text.now ≤ 134217728 }
     ensures written { IfOk result (λ design. AreWritten (seen_design design)) }
 {
-    designs_are_written();
+    designs_have_icl_names();
     tokens_are_in_the_text();
     let Ok(tokens) = lex(text) else {
         return Err("the text is not cut");

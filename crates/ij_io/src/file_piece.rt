@@ -69,7 +69,7 @@ pub fn put_last_piece<S: Shelf>(
 /// # Errors
 ///
 /// Those of [`put_piece`].
-pub fn next_piece<S: Shelf>(
+pub fn store_full_piece<S: Shelf>(
     alloc: Global,
     name: &str,
     piece: SureSink,

@@ -130,7 +130,7 @@ fn played(alloc: Global, commands: &Commands) -> Clocks
     Clocks {
         quiet,
         shifted,
-        ended: player.ended(),
+        ended: player.end_state(),
     }
 }
 

@@ -6,11 +6,12 @@ use mathlib.Core.Bool.{beq}
 use Rattle.std.specs.Option.{option_eq}
 use Rattle.ij_text.specs.declared.digits.Radix.{Radix}
 use Rattle.ij_text.specs.declared.digits.Radix.TheVariants.{Ten}
-use Rattle.ij_text.specs.Numbers.{decimal_from, next_decimal, digit_bits, text_bits, open_bits, tern_bits}
+use Rattle.ij_text.specs.Numbers.{decimal_from, with_decimal_digit, digit_bits, text_bits, open_bits}
+use Rattle.ij_text.specs.Numbers.{tern_bits}
 use Rattle.ij_bits.specs.declared.tern.Tern.{Tern}
 
 -- a decimal grows with each digit
-pub next_grows : (n b : ℕ) → n ≤ next_decimal n b
+pub next_grows : (n b : ℕ) → n ≤ with_decimal_digit n b
 next_grows n b = by_test (b == 95)
   where
     by_test : (t : Bool) → n ≤ cond t n (10 * n + (b - 48))
@@ -20,7 +21,7 @@ next_grows n b = by_test (b == 95)
 pub grows : (bs : List ℕ) (n : ℕ) → n ≤ decimal_from n bs
 grows [] n = omega arith
 grows (b ∷ bs) n = let one = next_grows n b in
-    let others = grows bs (next_decimal n b) in omega (arith, one, others)
+    let others = grows bs (with_decimal_digit n b) in omega (arith, one, others)
 
 -- a text has no fewer bits than what comes after some of its bytes
 pub fewer : (radix : Radix) (text : List ℕ) (k : ℕ)

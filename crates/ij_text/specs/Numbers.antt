@@ -20,25 +20,25 @@ is_digit Two b = b == 48 || (b == 49 || b == 120)
 is_digit Sixteen b = is_ascii_hexdigit b || b == 120
 
 -- digits and `_` (95), the last of them a digit; it is told whether a digit comes before
-abbrev pub go_on : Radix → Bool → List ℕ → Bool
-go_on radix after_digit [] = after_digit
-go_on radix after_digit (b ∷ bs) =
-    cond (is_digit radix b) (go_on radix true bs) (b == 95 && go_on radix false bs)
+abbrev pub is_rest_of_digits : Radix → Bool → List ℕ → Bool
+is_rest_of_digits radix after_digit [] = after_digit
+is_rest_of_digits radix after_digit (b ∷ bs) =
+    cond (is_digit radix b) (is_rest_of_digits radix true bs) (b == 95 && is_rest_of_digits radix false bs)
 
 -- a digit, and then digits and `_`, the last of them a digit
 abbrev pub are_digits : Radix → List ℕ → Bool
 are_digits radix [] = false
-are_digits radix (b ∷ bs) = is_digit radix b && go_on radix true bs
+are_digits radix (b ∷ bs) = is_digit radix b && is_rest_of_digits radix true bs
 
 -- ---- values
 
 -- a decimal, of which the digits so far stand for n
-abbrev pub next_decimal : ℕ → ℕ → ℕ
-next_decimal n b = cond (b == 95) n (10 * n + (b - 48))
+abbrev pub with_decimal_digit : ℕ → ℕ → ℕ
+with_decimal_digit n b = cond (b == 95) n (10 * n + (b - 48))
 
 abbrev pub decimal_from : ℕ → List ℕ → ℕ
 decimal_from n [] = n
-decimal_from n (b ∷ bs) = decimal_from (next_decimal n b) bs
+decimal_from n (b ∷ bs) = decimal_from (with_decimal_digit n b) bs
 
 -- a decimal of at most 4,294,967,295
 abbrev pub small : ℕ → Option ℕ

@@ -2,8 +2,9 @@
 ghost use Rattle.std.specs.Prelude.{◌≡◌, ◌+◌, ◌*◌, ◌^◌, ◌<◌, ◌≤◌, ◌++◌, [], cond, true, length, Some, None};
 ghost use Rattle.std.specs.Prelude.{nat_lt, IfOk, OnOk, MatchOption, ◌==◌, ◌/◌};
 ghost use Rattle.std.specs.Char.{is_ascii_hexdigit};
-ghost use Rattle.ij_text.specs.Numbers.{are_digits, decimal_from, digit_bits, go_on, hex_value, is_digit};
-ghost use Rattle.ij_text.specs.Numbers.{next_decimal, text_bits};
+ghost use Rattle.ij_text.specs.Numbers.{are_digits, decimal_from, digit_bits, is_rest_of_digits, hex_value};
+ghost use Rattle.ij_text.specs.Numbers.{is_digit};
+ghost use Rattle.ij_text.specs.Numbers.{with_decimal_digit, text_bits};
 
 use crate::open_bits::OpenBits;
 use ij_bits::OutOfMemory;
@@ -29,8 +30,8 @@ fn is_digit(radix: Radix, b: u8) -> bool
 }
 
 /// Whether these bytes, after a digit, are digits and `_`, the last a digit.
-fn go_on(radix: Radix, bytes: &[u8]) -> bool
-    ensures { result ≡ go_on radix true bytes.now }
+fn is_rest_of_digits(radix: Radix, bytes: &[u8]) -> bool
+    ensures { result ≡ is_rest_of_digits radix true bytes.now }
 {
     let mut after_digit = true;
     for b in bytes {
@@ -50,14 +51,14 @@ pub(crate) fn are_digits(radix: Radix, text: &[u8]) -> bool
     ensures { result ≡ are_digits radix text.now }
 {
     match text {
-        [b, bytes @ ..] => is_digit(radix, *b) && go_on(radix, bytes),
+        [b, bytes @ ..] => is_digit(radix, *b) && is_rest_of_digits(radix, bytes),
         [] => false,
     }
 }
 
 /// The decimal with one more digit, if it is below 2^128.
-fn next_decimal(n: u128, b: u8) -> Option<u128>
-    ensures { MatchOption result (2 ^ 128 ≤ next_decimal n b) (λ m. m ≡ next_decimal n b) }
+fn with_decimal_digit(n: u128, b: u8) -> Option<u128>
+    ensures { MatchOption result (2 ^ 128 ≤ with_decimal_digit n b) (λ m. m ≡ with_decimal_digit n b) }
 {
     if b == b'_' {
         return Some(n);
@@ -72,7 +73,7 @@ pub fn decimal(text: &[u8]) -> Option<u128>
 {
     let mut n = 0;
     for b in text {
-        n = next_decimal(n, *b)?;
+        n = with_decimal_digit(n, *b)?;
     }
     Some(n)
 }
@@ -92,7 +93,7 @@ pub fn hex_value(b: u8) -> u8
 }
 
 /// Adds the bits of a hexadecimal digit.
-fn put_hex(bits: &mut OpenBits, b: u8) -> Result<(), OutOfMemory>
+fn push_hex_digit(bits: &mut OpenBits, b: u8) -> Result<(), OutOfMemory>
     requires { length bits.old + 4 < 2 ^ 32 }
     ensures { OnOk result (bits.new ≡ bits.old ++ digit_bits Radix.Sixteen b) }
 {
@@ -100,7 +101,7 @@ fn put_hex(bits: &mut OpenBits, b: u8) -> Result<(), OutOfMemory>
 }
 
 /// Adds the bits of a digit.
-fn put_digit(bits: &mut OpenBits, radix: Radix, b: u8) -> Result<(), OutOfMemory>
+fn push_digit_bits(bits: &mut OpenBits, radix: Radix, b: u8) -> Result<(), OutOfMemory>
     requires { length bits.old + 4 < 2 ^ 32 }
     ensures { OnOk result (bits.new ≡ bits.old ++ cond (b == 95) [] (digit_bits radix b)) }
 {
@@ -110,7 +111,7 @@ fn put_digit(bits: &mut OpenBits, radix: Radix, b: u8) -> Result<(), OutOfMemory
     match radix {
         Radix::Ten => Ok(()),
         Radix::Two => bits.push(if b == b'x' { None } else { Some(b == b'1') }),
-        Radix::Sixteen => put_hex(bits, b),
+        Radix::Sixteen => push_hex_digit(bits, b),
     }
 }
 
@@ -147,7 +148,7 @@ pub(crate) fn text_bits(alloc: Global, radix: Radix, text: &[u8]) -> Result<Open
     let mut bits = OpenBits::new(alloc)?;
     let n = text.len();
     for i in 0..n {
-        put_digit(&mut bits, radix, text[n - 1 - i])?;
+        push_digit_bits(&mut bits, radix, text[n - 1 - i])?;
     }
     Ok(bits)
 }

@@ -17,7 +17,7 @@ fn is_wide_decimal(n: u128, width: u32) -> bool
 }
 
 /// A decimal in a width, without what is above.
-fn decimal_in(alloc: Global, n: u128, width: u32) -> Result<Tern, OutOfMemory>
+fn decimal_in_width(alloc: Global, n: u128, width: u32) -> Result<Tern, OutOfMemory>
     ensures { IfOk result (λ t. tern_bits t ≡ map (λ bit. Some bit) (bits_of width n)) }
 {
     let mut value = Bits::with_room(alloc, width)?;
@@ -54,7 +54,7 @@ fn is_wide_tern(t: &Tern, width: u32) -> bool
 }
 
 /// A number in a width, without what is above.
-fn tern_in(alloc: Global, t: &Tern, width: u32) -> Result<Tern, OutOfMemory>
+fn tern_in_width(alloc: Global, t: &Tern, width: u32) -> Result<Tern, OutOfMemory>
     ensures { IfOk result (λ u. tern_bits u ≡ bits_in width (InBits (tern_bits t.now))) }
 {
     let n = t.len().min(width);
@@ -83,13 +83,13 @@ pub fn fit(alloc: Global, number: &Number, width: u32) -> Result<Tern, FitFault>
             if is_wide_decimal(*n, width) {
                 return Err(FitFault::Wide);
             }
-            Ok(decimal_in(alloc, *n, width)?)
+            Ok(decimal_in_width(alloc, *n, width)?)
         }
         Number::Digits(t) => {
             if is_wide_tern(t, width) {
                 return Err(FitFault::Wide);
             }
-            Ok(tern_in(alloc, t, width)?)
+            Ok(tern_in_width(alloc, t, width)?)
         }
     }
 }

@@ -57,7 +57,12 @@ impl From<OutOfMemory> for FitFault {
 }
 
 /// The number that digits say.
-fn said(alloc: Global, radix: Radix, text: &[u8], at: Place) -> Result<Number, NumberFault>
+fn number_from_digits(
+    alloc: Global,
+    radix: Radix,
+    text: &[u8],
+    at: Place,
+) -> Result<Number, NumberFault>
     ensures { Gives (said radix text.now) at result }
 {
     if !are_digits(radix, text) {
@@ -68,12 +73,17 @@ fn said(alloc: Global, radix: Radix, text: &[u8], at: Place) -> Result<Number, N
             Some(n) => Ok(Number::Decimal(n)),
             None => Err(NumberFault::TooWide { at }),
         },
-        _ => said_bits(alloc, radix, text, at),
+        _ => number_from_bit_digits(alloc, radix, text, at),
     }
 }
 
 /// The number that binary or hexadecimal digits say.
-fn said_bits(alloc: Global, radix: Radix, text: &[u8], at: Place) -> Result<Number, NumberFault>
+fn number_from_bit_digits(
+    alloc: Global,
+    radix: Radix,
+    text: &[u8],
+    at: Place,
+) -> Result<Number, NumberFault>
     ensures { Gives (Some (InBits (text_bits radix text.now))) at result }
 {
     if is_too_wide(radix, text) {
@@ -87,9 +97,9 @@ fn read(alloc: Global, text: &[u8], at: Place) -> Result<Number, NumberFault>
     ensures { Gives (number_of_text text.now) at result }
 {
     match text {
-        [b'0', b'b', digits @ ..] => said(alloc, Radix::Two, digits, at),
-        [b'0', b'x', digits @ ..] => said(alloc, Radix::Sixteen, digits, at),
-        _ => said(alloc, Radix::Ten, text, at),
+        [b'0', b'b', digits @ ..] => number_from_digits(alloc, Radix::Two, digits, at),
+        [b'0', b'x', digits @ ..] => number_from_digits(alloc, Radix::Sixteen, digits, at),
+        _ => number_from_digits(alloc, Radix::Ten, text, at),
     }
 }
 

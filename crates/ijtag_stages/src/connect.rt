@@ -15,7 +15,7 @@ use net_graph::{Device, Net};
 use std::alloc::Global;
 
 /// How a fault is reported.
-fn told(alloc: Global, fault: ConnectFault) -> StageFault
+fn refusal_of(alloc: Global, fault: ConnectFault) -> StageFault
     ensures { IsToldAs (option_map connect_refusal (seen_fault fault)) result }
 {
     match fault {
@@ -41,6 +41,6 @@ pub fn connect_hierarchy(alloc: Global, hier: &Hier, device: &Device) -> Result<
     nets_are_well_formed();
     match connect(alloc, hier, &device.link, &device.instr) {
         Ok(net) => Ok(net),
-        Err(fault) => Err(told(alloc, fault)),
+        Err(fault) => Err(refusal_of(alloc, fault)),
     }
 }

@@ -10,7 +10,7 @@ use net_graph::Device;
 use std::alloc::Global;
 
 /// How a fault is reported.
-fn told(alloc: Global, fault: DeviceFault) -> StageFault
+fn refusal_of(alloc: Global, fault: DeviceFault) -> StageFault
     ensures { IsToldAs (device_fault fault) result }
 {
     match fault {
@@ -31,6 +31,6 @@ pub fn read_device(alloc: Global, text: &[u8]) -> Result<Device, StageFault>
 {
     match bench_file::read_device(alloc, text) {
         Ok(device) => Ok(device),
-        Err(fault) => Err(told(alloc, fault)),
+        Err(fault) => Err(refusal_of(alloc, fault)),
     }
 }

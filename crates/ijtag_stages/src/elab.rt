@@ -36,7 +36,7 @@ pub(crate) fn which_name(which: Which) -> &'static [u8]
 }
 
 /// How a fault is reported.
-fn told(alloc: Global, fault: ElabFault) -> StageFault
+fn refusal_of(alloc: Global, fault: ElabFault) -> StageFault
     ensures { IsToldAs (option_map elab_refusal (seen_fault fault)) result }
 {
     match fault {
@@ -72,7 +72,7 @@ fn elaborate_below(alloc: Global, design: &Design, top: &Name) -> Result<Hier, S
 {
     match elaborate(alloc, design, top) {
         Ok(hier) => Ok(hier),
-        Err(fault) => Err(told(alloc, fault)),
+        Err(fault) => Err(refusal_of(alloc, fault)),
     }
 }
 

@@ -18,7 +18,7 @@ use net_graph::Net;
 use std::alloc::Global;
 
 /// A refusal that tells an instrument.
-fn told_inst(alloc: Global, net: &Net, kind: &'static [u8], inst: u32) -> StageFault
+fn refusal_of_inst(alloc: Global, net: &Net, kind: &'static [u8], inst: u32) -> StageFault
     ensures { IsToldAs (Some (refused_name Stage.Fit kind.now (inst_name (seen_net net.now) inst))) result }
 {
     match inst_name(alloc, net, inst) {
@@ -28,13 +28,13 @@ fn told_inst(alloc: Global, net: &Net, kind: &'static [u8], inst: u32) -> StageF
 }
 
 /// How a fault is reported.
-fn told(alloc: Global, net: &Net, fault: FitsFault) -> StageFault
+fn refusal_of(alloc: Global, net: &Net, fault: FitsFault) -> StageFault
     ensures { IsToldAs (fit_refusal net.now fault) result }
 {
     match fault {
-        FitsFault::NoTable { inst } => told_inst(alloc, net, b"NoTable", inst),
+        FitsFault::NoTable { inst } => refusal_of_inst(alloc, net, b"NoTable", inst),
         FitsFault::ExtraTable { at } => refused_at(alloc, Stage::Fit, b"ExtraTable", at),
-        FitsFault::PortWidth { inst } => told_inst(alloc, net, b"PortWidth", inst),
+        FitsFault::PortWidth { inst } => refusal_of_inst(alloc, net, b"PortWidth", inst),
         FitsFault::OutOfMemory => StageFault::OutOfMemory,
     }
 }
@@ -50,6 +50,6 @@ pub fn fit_tables(alloc: Global, net: &Net, tables: &List<Table>) -> Result<Fitt
 {
     match fits(alloc, net, tables) {
         Ok(fitted) => Ok(fitted),
-        Err(fault) => Err(told(alloc, net, fault)),
+        Err(fault) => Err(refusal_of(alloc, net, fault)),
     }
 }

@@ -6,13 +6,13 @@ ghost use Rattle.ijtag_stages.specs.Follows.{Follows, IsToldAs};
 ghost use Rattle.ijtag_stages.specs.IclText.{icl_text, icl_tokens, icl_design, lex_refusal, parse_refusal};
 
 use crate::refusal::{Stage, StageFault, refused_at, refused_word};
-use icl_frames::designs_are_written;
+use icl_frames::designs_have_icl_names;
 use icl_lexer::{Cursor, Design, LexFault, lex, tokens_are_in_the_text};
 use icl_parser::{ParseFault, parse};
 use std::alloc::Global;
 
 /// How a fault of the tokens is reported.
-fn lex_fault(alloc: Global, fault: LexFault) -> StageFault
+fn refusal_of_lex(alloc: Global, fault: LexFault) -> StageFault
     ensures { IsToldAs (Some (lex_refusal fault)) result }
 {
     match fault {
@@ -23,7 +23,7 @@ fn lex_fault(alloc: Global, fault: LexFault) -> StageFault
 }
 
 /// How a fault of the grammar is reported.
-fn parse_fault(alloc: Global, fault: ParseFault) -> StageFault
+fn refusal_of_parse(alloc: Global, fault: ParseFault) -> StageFault
     ensures { IsToldAs (parse_refusal fault) result }
 {
     match fault {
@@ -42,7 +42,7 @@ fn read_tokens<'a>(alloc: Global, text: &'a [u8]) -> Result<Cursor<'a>, StageFau
 {
     match lex(text) {
         Ok(tokens) => Ok(tokens),
-        Err(fault) => Err(lex_fault(alloc, fault)),
+        Err(fault) => Err(refusal_of_lex(alloc, fault)),
     }
 }
 
@@ -54,7 +54,7 @@ fn read_modules<'a>(alloc: Global, text: &[u8], tokens: Cursor<'a>) -> Result<De
 {
     match parse(alloc, text, tokens) {
         Ok(design) => Ok(design),
-        Err(fault) => Err(parse_fault(alloc, fault)),
+        Err(fault) => Err(refusal_of_parse(alloc, fault)),
     }
 }
 
@@ -66,7 +66,7 @@ pub fn read_icl(alloc: Global, text: &[u8]) -> Result<Design, StageFault>
     ensures follows { Follows (icl_text text.now) seen_design result }
     ensures written { IfOk result (λ design. AreWritten (seen_design design)) }
 {
-    designs_are_written();
+    designs_have_icl_names();
     tokens_are_in_the_text();
     let tokens = read_tokens(alloc, text)?;
     let design = read_modules(alloc, text, tokens)?;

@@ -23,7 +23,7 @@ pub use elab::elaborate_design;
 pub use fit::fit_tables;
 pub use icl::read_icl;
 pub use laws::{stages_are_decided, stages_are_total};
-pub use nest::nest_fault;
+pub use nest::refusal_of_nest;
 pub use network::{Network, read_network};
 pub use pdl::read_pdl;
 pub use procedure::check_procedure;

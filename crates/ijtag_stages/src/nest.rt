@@ -15,7 +15,7 @@ use net_tree::Tree;
 use std::alloc::Global;
 
 /// A refusal that tells a register or a mux.
-fn told_cell(alloc: Global, net: &Net, kind: &'static [u8], cell: Point) -> StageFault
+fn refusal_of_cell(alloc: Global, net: &Net, kind: &'static [u8], cell: Point) -> StageFault
     ensures { IsToldAs (Some (refused_name Stage.Nest kind.now (cell_name (seen_net net.now) cell))) result }
 {
     match cell_name(alloc, net, cell) {
@@ -25,7 +25,7 @@ fn told_cell(alloc: Global, net: &Net, kind: &'static [u8], cell: Point) -> Stag
 }
 
 /// A refusal that tells a bit.
-fn told_bit(alloc: Global, net: &Net, kind: &'static [u8], bit: BitId) -> StageFault
+fn refusal_of_bit(alloc: Global, net: &Net, kind: &'static [u8], bit: BitId) -> StageFault
     ensures { IsToldAs (Some
         (record { stage = Stage.Nest; kind = kind.now; args = bit_arg (seen_net net.now) bit ∷ [] })) result }
 {
@@ -36,7 +36,7 @@ fn told_bit(alloc: Global, net: &Net, kind: &'static [u8], bit: BitId) -> StageF
 }
 
 /// The refusal that tells a select bit and the instrument that it drives.
-fn told_drives(alloc: Global, net: &Net, bit: BitId, inst: u32) -> StageFault
+fn refusal_of_drives(alloc: Global, net: &Net, bit: BitId, inst: u32) -> StageFault
     ensures { IsToldAs (Some (record {
       stage = Stage.Nest;
       kind = codes "SelectDrives";
@@ -52,23 +52,28 @@ fn told_drives(alloc: Global, net: &Net, bit: BitId, inst: u32) -> StageFault
 }
 
 /// How a fault of the nested form is reported: its refusal, unless memory ran out.
-pub fn nest_fault(alloc: Global, net: &Net, fault: NestFault) -> StageFault
+pub fn refusal_of_nest(alloc: Global, net: &Net, fault: NestFault) -> StageFault
     ensures { IsToldAs (nest_refusal (seen_net net.now) fault) result }
 {
     match fault {
-        NestFault::Unreached { cell } => told_cell(alloc, net, b"Unreached", cell),
+        NestFault::Unreached { cell } => refusal_of_cell(alloc, net, b"Unreached", cell),
         NestFault::NotNested => refused(alloc, Stage::Nest, b"NotNested"),
-        NestFault::SelectInside { mux } => told_cell(alloc, net, b"SelectInside", Point::Mux(mux)),
-        NestFault::SelectShared { bit } => told_bit(alloc, net, b"SelectShared", bit),
-        NestFault::SelectDrives { bit, inst } => told_drives(alloc, net, bit, inst),
-        NestFault::SelectNoReset { bit } => told_bit(alloc, net, b"SelectNoReset", bit),
-        NestFault::ResetUnlisted { mux } => told_cell(
+        NestFault::SelectInside { mux } => refusal_of_cell(
+            alloc,
+            net,
+            b"SelectInside",
+            Point::Mux(mux),
+        ),
+        NestFault::SelectShared { bit } => refusal_of_bit(alloc, net, b"SelectShared", bit),
+        NestFault::SelectDrives { bit, inst } => refusal_of_drives(alloc, net, bit, inst),
+        NestFault::SelectNoReset { bit } => refusal_of_bit(alloc, net, b"SelectNoReset", bit),
+        NestFault::ResetUnlisted { mux } => refusal_of_cell(
             alloc,
             net,
             b"ResetUnlisted",
             Point::Mux(mux),
         ),
-        NestFault::TooDeep { mux } => told_cell(alloc, net, b"TooDeep", Point::Mux(mux)),
+        NestFault::TooDeep { mux } => refusal_of_cell(alloc, net, b"TooDeep", Point::Mux(mux)),
         NestFault::OutOfMemory => StageFault::OutOfMemory,
     }
 }
@@ -82,6 +87,6 @@ pub(crate) fn nest_network(alloc: Global, net: &Net) -> Result<Tree, StageFault>
 {
     match nest(alloc, net) {
         Ok(tree) => Ok(tree),
-        Err(fault) => Err(nest_fault(alloc, net, fault)),
+        Err(fault) => Err(refusal_of_nest(alloc, net, fault)),
     }
 }

@@ -12,7 +12,7 @@ use pdl_parser::{PdlFault, Procs, names_differ, parse_pdl};
 use std::alloc::Global;
 
 /// How a fault is reported.
-fn told(alloc: Global, fault: PdlFault) -> StageFault
+fn refusal_of(alloc: Global, fault: PdlFault) -> StageFault
     ensures { IsToldAs (pdl_refusal (seen_fault fault)) result }
 {
     match fault {
@@ -38,6 +38,6 @@ pub fn read_pdl(alloc: Global, text: &[u8]) -> Result<Procs, StageFault>
     names_differ();
     match parse_pdl(alloc, text) {
         Ok(procs) => Ok(procs),
-        Err(fault) => Err(told(alloc, fault)),
+        Err(fault) => Err(refusal_of(alloc, fault)),
     }
 }

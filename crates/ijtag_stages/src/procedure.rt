@@ -32,7 +32,7 @@ use pdl_targets::TargetFault;
 use std::alloc::Global;
 
 /// How a fault of calls and prefixes is reported.
-fn told_expand(alloc: Global, fault: ExpandFault) -> StageFault
+fn refusal_of_expand(alloc: Global, fault: ExpandFault) -> StageFault
     ensures { IsToldAs (option_map expand_refusal (expand_fault fault)) result }
 {
     match fault {
@@ -46,7 +46,7 @@ fn told_expand(alloc: Global, fault: ExpandFault) -> StageFault
 }
 
 /// A refusal of a step at a register bit.
-fn told_bit(alloc: Global, net: &Net, at: Place, bit: BitId) -> StageFault
+fn refusal_of_bit(alloc: Global, net: &Net, at: Place, bit: BitId) -> StageFault
     ensures { IsToldAs (Some (record {
       stage = Stage.Pdl;
       kind = codes "SelectTarget";
@@ -60,7 +60,7 @@ fn told_bit(alloc: Global, net: &Net, at: Place, bit: BitId) -> StageFault
 }
 
 /// A refusal of a step at a limit.
-fn told_limit(alloc: Global, at: Place, which: Which, number: u64) -> StageFault
+fn refusal_of_limit(alloc: Global, at: Place, which: Which, number: u64) -> StageFault
     ensures { IsToldAs (Some (record {
       stage = Stage.Pdl;
       kind = codes "Limit";
@@ -81,7 +81,7 @@ fn told_limit(alloc: Global, at: Place, which: Which, number: u64) -> StageFault
 }
 
 /// How a fault of targets is reported.
-fn told_target(alloc: Global, net: &Net, fault: TargetFault) -> StageFault
+fn refusal_of_target(alloc: Global, net: &Net, fault: TargetFault) -> StageFault
     ensures { IsToldAs (option_map (target_refusal (seen_net net.now)) (target_fault fault)) result }
 {
     match fault {
@@ -90,33 +90,33 @@ fn told_target(alloc: Global, net: &Net, fault: TargetFault) -> StageFault
         TargetFault::ValueWide { at } => refused_at(alloc, Stage::Pdl, b"ValueWide", at),
         TargetFault::NotWritable { at } => refused_at(alloc, Stage::Pdl, b"NotWritable", at),
         TargetFault::NotReadable { at } => refused_at(alloc, Stage::Pdl, b"NotReadable", at),
-        TargetFault::SelectTarget { at, bit } => told_bit(alloc, net, at, bit),
+        TargetFault::SelectTarget { at, bit } => refusal_of_bit(alloc, net, at, bit),
         TargetFault::BadCount { at } => refused_at(alloc, Stage::Pdl, b"BadCount", at),
-        TargetFault::Limit { at, which, number } => told_limit(alloc, at, which, number),
+        TargetFault::Limit { at, which, number } => refusal_of_limit(alloc, at, which, number),
         TargetFault::Unapplied { at } => refused_at(alloc, Stage::Pdl, b"Unapplied", at),
         TargetFault::OutOfMemory => StageFault::OutOfMemory,
     }
 }
 
 /// How a fault of a step is reported.
-fn told_feed(alloc: Global, net: &Net, fault: FeedFault) -> StageFault
+fn refusal_of_feed(alloc: Global, net: &Net, fault: FeedFault) -> StageFault
     ensures { IsToldAs (option_map (feed_refusal (seen_net net.now)) (feed_fault fault)) result }
 {
     match fault {
         FeedFault::MergeInside { at } => refused_at(alloc, Stage::Pdl, b"MergeInside", at),
         FeedFault::MergeReset { at } => refused_at(alloc, Stage::Pdl, b"MergeReset", at),
-        FeedFault::Target(fault) => told_target(alloc, net, fault),
+        FeedFault::Target(fault) => refusal_of_target(alloc, net, fault),
         FeedFault::OutOfMemory => StageFault::OutOfMemory,
     }
 }
 
 /// How a fault of a procedure is reported.
-fn told(alloc: Global, net: &Net, fault: StepFault) -> StageFault
+fn refusal_of(alloc: Global, net: &Net, fault: StepFault) -> StageFault
     ensures { IsToldAs (option_map (step_refusal (seen_net net.now)) (fault_of fault)) result }
 {
     match fault {
-        StepFault::Expand(fault) => told_expand(alloc, fault),
-        StepFault::Feed(fault) => told_feed(alloc, net, fault),
+        StepFault::Expand(fault) => refusal_of_expand(alloc, fault),
+        StepFault::Feed(fault) => refusal_of_feed(alloc, net, fault),
         StepFault::OutOfMemory => StageFault::OutOfMemory,
     }
 }
@@ -146,6 +146,6 @@ pub fn check_procedure(
         name.as_bytes(),
     ) {
         Ok(()) => Ok(()),
-        Err(fault) => Err(told(alloc, &network.net, fault)),
+        Err(fault) => Err(refusal_of(alloc, &network.net, fault)),
     }
 }

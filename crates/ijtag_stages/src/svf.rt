@@ -12,7 +12,7 @@ use svf_reader::SvfFault;
 use svf_writer::Commands;
 
 /// How a fault is reported.
-fn told(alloc: Global, fault: SvfFault) -> StageFault
+fn refusal_of(alloc: Global, fault: SvfFault) -> StageFault
     ensures { IsToldAs (svf_fault fault) result }
 {
     match fault {
@@ -36,6 +36,6 @@ pub fn read_svf(alloc: Global, text: &[u8]) -> Result<Commands, StageFault>
     read_commands_are_playable();
     match svf_reader::read_svf(alloc, text) {
         Ok(commands) => Ok(commands),
-        Err(fault) => Err(told(alloc, fault)),
+        Err(fault) => Err(refusal_of(alloc, fault)),
     }
 }

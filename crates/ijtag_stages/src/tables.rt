@@ -12,7 +12,7 @@ use ij_bits::List;
 use std::alloc::Global;
 
 /// How a fault is reported.
-fn told(alloc: Global, fault: TableFault) -> StageFault
+fn refusal_of(alloc: Global, fault: TableFault) -> StageFault
     ensures { IsToldAs (tables_fault fault) result }
 {
     match fault {
@@ -34,6 +34,6 @@ pub fn read_tables(alloc: Global, text: &[u8]) -> Result<List<Table>, StageFault
 {
     match bench_file::read_tables(alloc, text) {
         Ok(tables) => Ok(tables),
-        Err(fault) => Err(told(alloc, fault)),
+        Err(fault) => Err(refusal_of(alloc, fault)),
     }
 }

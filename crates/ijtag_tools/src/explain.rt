@@ -17,7 +17,7 @@ use ijtag_core::{Effect, SVF_LIMIT};
 use ijtag_stages::{Stage, StageFault, refused};
 use ijtag_work::{Accepted, Inputs, Stop, Texts, Verdict};
 use std::alloc::Global;
-use svf_notes::{explained_commands_stay, explained_len, explained_most, put_explained_file};
+use svf_notes::{explained_commands_stay, explained_len, explained_len_bound, put_explained_file};
 
 /// Refuses a text with notes that is too long to be read again. It is played only where the lengths of its
 /// scans don't tell that it is short.
@@ -30,7 +30,7 @@ fn check_length(alloc: Global, it: &Accepted) -> Result<(), StageFault>
     ensures { Follows (is_readable (seen_accepted it.now)) (λ _. tt) result }
 {
     let net = &it.network.net;
-    let most = explained_most(
+    let most = explained_len_bound(
         alloc,
         net,
         &it.device,

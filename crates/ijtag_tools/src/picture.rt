@@ -59,7 +59,7 @@ fn draw(
 
 /// Draws the network, with the active path at power-up.
 #[tactic(auto, using(net_graph::proofs::Widths::start_held))]
-fn draw_first(alloc: Global, it: &Accepted) -> Result<SureSink, OutOfMemory>
+fn draw_at_power_up(alloc: Global, it: &Accepted) -> Result<SureSink, OutOfMemory>
     requires usable { IsUsable it.now }
     ensures { IfOk result (λ text. text ≡ first_drawing (seen_accepted it.now)) }
 {
@@ -69,7 +69,7 @@ fn draw_first(alloc: Global, it: &Accepted) -> Result<SureSink, OutOfMemory>
 
 /// What the update stages hold before a scan of the play; refused where there is no such scan.
 #[tactic(auto, unfolding(crate::specs::Order::held_before))]
-fn look_before(alloc: Global, it: &Accepted, scan: u64) -> Result<Holds, StageFault>
+fn holds_before_scan(alloc: Global, it: &Accepted, scan: u64) -> Result<Holds, StageFault>
     requires usable { IsUsable it.now }
     requires models { there it.now.models ≡ true }
     requires commands { there it.now.commands ≡ true }
@@ -111,7 +111,7 @@ impl<'w> Effect for PictureWords<'w> {
         shelf: &mut S,
         _out: &mut O,
     ) -> Result<Verdict, Stop<'a>> {
-        let text = draw_first(alloc, it)?;
+        let text = draw_at_power_up(alloc, it)?;
         match write_file(self.picture, text.bytes(), shelf) {
             Ok(()) => Ok(Verdict::Agrees),
             Err(fault) => Err(Stop::of_file(fault, self.picture)),
@@ -146,7 +146,7 @@ impl<'w> Effect for PictureAtWords<'w> {
         shelf: &mut S,
         _out: &mut O,
     ) -> Result<Verdict, Stop<'a>> {
-        let holds = look_before(alloc, it, self.scan)?;
+        let holds = holds_before_scan(alloc, it, self.scan)?;
         let text = draw(alloc, it, &holds, self.format)?;
         match write_file(self.picture, text.bytes(), shelf) {
             Ok(()) => Ok(Verdict::Agrees),

@@ -46,7 +46,7 @@ pub struct Tightened {
 }
 
 /// Whether the audit says yes of commands for the accepted procedure.
-fn is_yes(alloc: Global, it: &Accepted, commands: &Commands) -> Result<bool, OutOfMemory>
+fn is_audit_yes(alloc: Global, it: &Accepted, commands: &Commands) -> Result<bool, OutOfMemory>
     requires usable { IsUsable it.now }
     requires procedure { there it.now.procedure ≡ true }
     requires few { scans_in commands.now ≤ 1000000000 }
@@ -88,7 +88,7 @@ fn compiled(alloc: Global, it: &Accepted) -> Result<Planned, OutOfMemory>
 
 /// The commands that a reader finds in a text, where it finds some.
 #[tactic(auto, unfolding(ijtag_stages::specs::SvfText::svf_text))]
-fn read(alloc: Global, text: &[u8]) -> Result<Option<Commands>, OutOfMemory>
+fn read_if_svf(alloc: Global, text: &[u8]) -> Result<Option<Commands>, OutOfMemory>
     ensures found { IfOk result (λ found. IfSome found (λ commands. svf text.now ≡ Ok commands)) }
     ensures clocks { IfOk result
         (λ found. IfSome found (λ commands. length (pins InReset 0 commands) ≤ 1000000000)) }
@@ -110,10 +110,10 @@ fn audited(alloc: Global, it: &Accepted, svf: SureSink) -> Result<Option<Planned
     requires procedure { there it.now.procedure ≡ true }
     ensures { IfOk result (λ found. IfSome found (IsSound (seen_accepted it.now))) }
 {
-    let Some(commands) = read(alloc, svf.bytes())? else {
+    let Some(commands) = read_if_svf(alloc, svf.bytes())? else {
         return Ok(None);
     };
-    if !is_yes(alloc, it, &commands)? {
+    if !is_audit_yes(alloc, it, &commands)? {
         return Ok(None);
     }
     a_yes_does_as_meant(it, &commands);

@@ -13,7 +13,7 @@ ghost use Rattle.ijtag_tools.specs.SeenGraphs.{seen_graph, seen_unnested};
 
 use icl_lexer::Design;
 use ij_bits::OutOfMemory;
-use ijtag_stages::{Refusal, StageFault, connect_hierarchy, elaborate_design, nest_fault};
+use ijtag_stages::{Refusal, StageFault, connect_hierarchy, elaborate_design, refusal_of_nest};
 use nest_check::{NestFault, nest};
 use net_graph::{Device, Net, Point};
 use std::alloc::Global;
@@ -60,7 +60,7 @@ fn unnested_by(alloc: Global, net: &Net, fault: NestFault) -> Result<Unnested, O
     ensures cell { IfOk result (λ why. why.cell ≡ fault_cell fault) }
 {
     let cell = cell_of(fault);
-    match nest_fault(alloc, net, fault) {
+    match refusal_of_nest(alloc, net, fault) {
         StageFault::Refused(refusal) => Ok(Unnested { refusal, cell }),
         StageFault::OutOfMemory => Err(OutOfMemory),
     }
@@ -68,7 +68,7 @@ fn unnested_by(alloc: Global, net: &Net, fault: NestFault) -> Result<Unnested, O
 
 /// Why a network has no lawful nested form, where it has none.
 #[tactic(auto, unfolding(crate::specs::Graphs::form_or_why))]
-fn find_why(alloc: Global, net: &Net) -> Result<Option<Unnested>, StageFault>
+fn find_why_unnested(alloc: Global, net: &Net) -> Result<Option<Unnested>, StageFault>
     requires { IsNet net.now }
     ensures { Follows (form_or_why net.now) (option_map seen_unnested) result }
 {
@@ -96,6 +96,6 @@ pub fn read_graph(
 {
     let hier = elaborate_design(alloc, design, top)?;
     let net = connect_hierarchy(alloc, &hier, device)?;
-    let unnested = find_why(alloc, &net)?;
+    let unnested = find_why_unnested(alloc, &net)?;
     Ok(Graph { net, unnested })
 }

@@ -146,7 +146,7 @@ fn picture_format_of(word: &str) -> Option<PictureFormat>
 }
 
 /// The way of planning of a word, where it names one.
-fn how_of(word: &str) -> Option<How>
+fn plan_mode_of(word: &str) -> Option<How>
     ensures { result ≡ how_named word.now }
 {
     if word == "full" {
@@ -240,7 +240,11 @@ fn read_where<'a>(words: &'a [String]) -> Option<ToolWords<'a>>
 }
 
 /// The command `picture` of power-up.
-fn draw_first<'a>(format: PictureFormat, network: NetworkWords<'a>, new: &'a str) -> ToolWords<'a>
+fn picture_at_power_up<'a>(
+    format: PictureFormat,
+    network: NetworkWords<'a>,
+    new: &'a str,
+) -> ToolWords<'a>
     ensures { seen_command result
         ≡ drawn (record { network = seen_network network.entry; new = new.now }) format }
 {
@@ -266,7 +270,7 @@ fn read_picture<'a>(words: &'a [String]) -> Option<ToolWords<'a>>
     let format = picture_format_of(format)?;
     let network = NetworkWords { icl, device, top };
     match rest {
-        [] => Some(draw_first(format, network, picture)),
+        [] => Some(picture_at_power_up(format, network, picture)),
         [svf, tables, scan] => {
             let scan = read_number(scan)?;
             let play = PlayWords {
@@ -292,7 +296,7 @@ fn read_tighten<'a>(words: &'a [String]) -> Option<ToolWords<'a>>
     let [how, icl, pdl, device, top, name, svf] = words else {
         return None;
     };
-    let how = how_of(how)?;
+    let how = plan_mode_of(how)?;
     Some(ToolWords::Tighten(TightenWords {
         how,
         procedure: ProcedureWords {

@@ -5,7 +5,7 @@ use Rattle.std.specs.List.{list_all}
 use Rattle.std.proofs.Common.{◌≡◌, ◌≤◌, ◌<◌, ◌+◌, ◌*◌, ◌-◌, ◌^◌, ℕ, zero, suc, Bool, true, false, List, []}
 use Rattle.std.proofs.Common.{◌∷◌, length, refl, arith}
 use Rattle.std.proofs.lemmas.Bool.Decides.{nat_tests}
-use Rattle.ij_text.specs.Numbers.{decimal_from, next_decimal}
+use Rattle.ij_text.specs.Numbers.{decimal_from, with_decimal_digit}
 use Rattle.ijtag_work.specs.Command.{is_number}
 use Rattle.std.proofs.lemmas.Bool.{and_parts}
 
@@ -34,7 +34,7 @@ one_of_two false n m most p q = q
 digit_small : (b : ℕ) → is_ascii_digit b ≡ true → b ≤ 57
 digit_small b h = grind (arith, nat_tests, h)
 
-next_small : (n b : ℕ) → is_ascii_digit b ≡ true → next_decimal n b ≤ 10 * n + 9
+next_small : (n b : ℕ) → is_ascii_digit b ≡ true → with_decimal_digit n b ≤ 10 * n + 9
 next_small n b h = one_of_two (b == 95) n (10 * n + (b - 48)) (10 * n + 9)
     (omega arith) (omega (arith, digit_small b h))
 
@@ -44,8 +44,8 @@ below_top (b ∷ bs) n h =
     let digits = and_parts (is_ascii_digit b) (list_all is_ascii_digit bs) h in
     omega (
       arith,
-      below_top bs (next_decimal n b) digits.1,
-      top_grows (length bs) (next_decimal n b) (10 * n + 9) (next_small n b digits.0),
+      below_top bs (with_decimal_digit n b) digits.1,
+      top_grows (length bs) (with_decimal_digit n b) (10 * n + 9) (next_small n b digits.0),
     )
 
 three : (p q r s : Bool) → (p && q && r && s) ≡ true → (p ≡ true) × (q ≡ true) × (r ≡ true)
@@ -62,14 +62,14 @@ number_fits [] h = absurd (cc)
 number_fits (b ∷ bs) h =
     let are = three (is_ascii_digit b) (list_all is_ascii_digit bs) (nat_lt (length bs) 19) _ h in
     let few : length bs ≤ 18 = omega (arith, is_less (length bs) 19 are.2) in
-    let here : decimal_from (next_decimal 0 b) bs
-    ≤ top (next_decimal 0 b) (length bs) = below_top bs (next_decimal 0 b) are.1 in
-    let first : next_decimal 0 b ≤ 9 = next_small 0 b are.0 in
+    let here : decimal_from (with_decimal_digit 0 b) bs
+    ≤ top (with_decimal_digit 0 b) (length bs) = below_top bs (with_decimal_digit 0 b) are.1 in
+    let first : with_decimal_digit 0 b ≤ 9 = next_small 0 b are.0 in
     let most : top 9 18 ≡ 9999999999999999999 = refl in
     omega (
       arith,
       here,
-      top_grows (length bs) (next_decimal 0 b) 9 first,
+      top_grows (length bs) (with_decimal_digit 0 b) 9 first,
       top_longer (length bs) 18 9 few,
       most,
     )

@@ -101,7 +101,7 @@ impl<'a> Stop<'a> {
 
 /// Prints a name after a text, on a line of its own.
 #[tactic(auto, unfolding(ij_io::specs::Words::words_text))]
-fn put_named<'a, K: Sink>(text: &'a [u8], name: &'a str, k: &mut K) -> Result<(), StoreFault>
+fn put_name_line<'a, K: Sink>(text: &'a [u8], name: &'a str, k: &mut K) -> Result<(), StoreFault>
     ensures whole { OnOk result (Adds (K.taken k.old) (K.taken k.new) (named_line text.now name.now)) }
     ensures part { OnErr result (AddsPart (K.taken k.old) (K.taken k.new) (named_line text.now name.now)) }
     ensures cause { HasCause (K.faults k.old) (K.faults k.new) result StoreFault.Failed }
@@ -148,8 +148,8 @@ fn put_stop<K: Sink>(usage: &[u8], stop: &Stop<'_>, k: &mut K) -> Result<(), Sto
     match stop {
         Stop::Usage => k.write(usage),
         Stop::Refused(refusal) => put_refusal(refusal, k),
-        Stop::ReadFault(name) => put_named(b"read fault ", name, k),
-        Stop::WriteFault(name) => put_named(b"write fault ", name, k),
+        Stop::ReadFault(name) => put_name_line(b"read fault ", name, k),
+        Stop::WriteFault(name) => put_name_line(b"write fault ", name, k),
         Stop::WriteMade(name) => put_write_made(name, k),
         Stop::OutputFault => k.write(b"write fault output\n"),
         Stop::OutOfMemory => k.write(b"out of memory\n"),

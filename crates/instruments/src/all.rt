@@ -168,7 +168,7 @@ pub fn start(
 }
 
 /// Shows every instrument the numbers at its inputs, with a change event where they differ from those before.
-pub fn show_all(net: &Net, models: &List<Model>, holds: &Holds, runners: &mut [Runner])
+pub fn drive_all_inputs(net: &Net, models: &List<Model>, holds: &Holds, runners: &mut [Runner])
     requires well_formed { IsNet net.now }
     requires holds { AreHolds net.now holds.now }
     requires models { AreModels net.now models.now.items }
@@ -180,7 +180,7 @@ pub fn show_all(net: &Net, models: &List<Model>, holds: &Holds, runners: &mut [R
 {
     for i in 0..runners.len() {
         let now = inputs_of(net.insts.get(i), holds);
-        runners[i].show(models.get(i), &now);
+        runners[i].drive_inputs(models.get(i), &now);
     }
 }
 
@@ -215,7 +215,7 @@ pub fn reset_all(net: &Net, models: &List<Model>, holds: &Holds, runners: &mut [
 }
 
 /// Notes the numbers that are at the inputs of every instrument, without an event.
-pub fn see_all(net: &Net, holds: &Holds, runners: &mut [Runner])
+pub fn note_all_inputs(net: &Net, holds: &Holds, runners: &mut [Runner])
     requires well_formed { IsNet net.now }
     requires holds { AreHolds net.now holds.now }
     requires count { length runners.old ≡ length net.now.insts.items }

@@ -105,7 +105,7 @@ pub(crate) fn inputs_of(inst: &Inst, holds: &Holds) -> [u64; 16]
 
 impl Runner {
     /// Shows other numbers at the inputs, with a change event where they differ.
-    pub(crate) fn show(&mut self, model: &Model, now: &[u64; 16])
+    pub(crate) fn drive_inputs(&mut self, model: &Model, now: &[u64; 16])
         requires { IsModel (seen_model model.now) }
         ensures inputs { self.new.inputs ≡ now.now }
         ensures state { (before after : Inputs) → StandFor self.old.inputs before → StandFor now.now after

@@ -41,7 +41,8 @@ use Rattle.svf_audit.specs.declared.answer.Cause.{Cause}
 use Rattle.svf_audit.specs.declared.answer.Cause.TheVariants.{End}
 use Rattle.svf_audit.specs.Audit.{State as AuditState, Reading, Yes, No, audit_from, changed as changed_on}
 use Rattle.svf_audit.specs.Audit.{does_writes, does_reads, is_written, note, scanned}
-use Rattle.svf_audit.specs.Audit.{was_reset as audit_reset, reset, step, has_row, load, pass, scan, do_group}
+use Rattle.svf_audit.specs.Audit.{was_reset as audit_reset, reset, step, has_row, load_instruction, pass}
+use Rattle.svf_audit.specs.Audit.{scan, do_group}
 use Rattle.svf_audit.specs.Audit.{start as audit_start}
 use Rattle.svf_audit.specs.Auditing.{FitsNext, last_dr, last_ir}
 use Rattle.svf_audit.specs.Work.{Work, Group, Cycle, Reset, due, group_first, after_reset, after_cycles}
@@ -51,7 +52,7 @@ use Rattle.svf_audit.proofs.Following.{KeptAs, kept_as, played_long, needed, nee
 use Rattle.svf_audit.proofs.Looping.{fits_next}
 use Rattle.svf_audit.proofs.Telling.{passed_in}
 use Rattle.svf_audit.proofs.Working.{IsWork, empty_is, steps_work}
-use Rattle.least_clocks.specs.Inside.{path_bits}
+use Rattle.least_clocks.specs.Inside.{bits_within_rows}
 use Rattle.least_clocks.specs.Law.{NoneTakesFewer}
 use Rattle.least_clocks.specs.Least.{clocks_to_idle, clocks_to_link, changed, first_path, first_scan, read}
 use Rattle.least_clocks.specs.Least.{is_on_first, is_passed, least_from, own_scan, scan_clocks}
@@ -142,7 +143,7 @@ module _ (net : Net) (form : Items) (device : Device) (d : Describes net form) w
   module _ (a : AuditState) (f : Bool) (k : Keeps a f) (ir dr : Option ℕ)
       (ki : KeptAs a.ir ir) (kd : KeptAs a.dr dr) where
     load_steps : (x : SeenScan) (b : AuditState) → FitsAfter ir x
-        → load net device a x ≡ ok b → Steps a f (SIR x) ir dr b
+        → load_instruction net device a x ≡ ok b → Steps a f (SIR x) ir dr b
     load_steps x b fit e =
         let linked = bits_eq (played a.ir x).tdi (bits_of device.ir device.opcode) in
         let b0 : AuditState =
@@ -331,7 +332,7 @@ module _ (net : Net) (form : Items) (device : Device) (d : Describes net form) w
       -- the path has all bits that the round passes
       asked_short : (g : SeenGroup) → list_all (has_value after) g.writes ≡ true
           → does_reads g path a.holds (played a.dr x).expects ≡ true → (o : Option (List ℕ))
-          → active net a.holds ≡ o → path_bits net form (is_passed form a.holds g) ≤ x.len
+          → active net a.holds ≡ o → bits_within_rows net form (is_passed form a.holds g) ≤ x.len
       asked_short g writes reads None e =
           let none = ap (λ (o : Option (List ℕ)). length (chain (unwrap_or o []) a.holds)) e in
           absurd (omega (arith, none, path_long, fit.some))

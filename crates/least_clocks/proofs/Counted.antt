@@ -12,7 +12,7 @@ use Rattle.tap_machine.specs.declared.Stable.TheVariants.{Idle as InIdle}
 use Rattle.svf_audit.specs.Work.{Work, Group, Cycle, is_redundant}
 use Rattle.least_clocks.specs.declared.count.Count.{Count}
 use Rattle.least_clocks.specs.Counting.{state_of}
-use Rattle.least_clocks.specs.Inside.{is_one_of, path_bits}
+use Rattle.least_clocks.specs.Inside.{is_one_of, bits_within_rows}
 use Rattle.least_clocks.specs.Least.{State, clocks_to_idle, clocks_to_link, first_scan, is_on_first}
 use Rattle.least_clocks.specs.Least.{is_passed, own_scan, scan_clocks, was_idle, least_from}
 use Rattle.least_clocks.proofs.Moving.{takes}
@@ -64,9 +64,9 @@ module _ (net : Net) (form : Items) (device : Device) where
 -- the clocks of a round's own scan, of the rows that were found
 pub own_counted : (net : Net) (form : Items) (holds : Holds) (g : SeenGroup) (rows : List Branch) (bits : ℕ)
     → ((b : Branch) → is_one_of rows b ≡ is_passed form holds g b)
-    → bits ≡ path_bits net form (is_one_of rows) → bits + 5 ≡ own_scan net form holds g
+    → bits ≡ bits_within_rows net form (is_one_of rows) → bits + 5 ≡ own_scan net form holds g
 own_counted net form holds g rows bits same is =
-    ap (λ n. n + 5) (is ∙ ap (path_bits net form) (λ i b. same b i))
+    ap (λ n. n + 5) (is ∙ ap (bits_within_rows net form) (λ i b. same b i))
 
 -- the clocks of the scans of a round, the first one or a later one
 pub scans_counted : (net : Net) (form : Items) (fresh : Bool) (holds : Holds) (g : SeenGroup) (own n : ℕ)

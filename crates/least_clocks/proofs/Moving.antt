@@ -28,7 +28,7 @@ use Rattle.tap_machine.specs.Play.{is_empty}
 use Rattle.svf_audit.specs.Work.{Work, Group, Cycle, Reset, has_value, is_redundant, due, after_cycle}
 use Rattle.svf_audit.specs.Work.{after_cycles}
 use Rattle.svf_audit.proofs.Working.{IsWork}
-use Rattle.least_clocks.specs.Inside.{is_one_of, path_bits}
+use Rattle.least_clocks.specs.Inside.{is_one_of, bits_within_rows}
 use Rattle.least_clocks.specs.Least.{State, clocks_to_idle, clocks_to_link, first_path, first_scan}
 use Rattle.least_clocks.specs.Least.{is_on_first, is_passed, own_scan, rows_around, read, round_clocks}
 use Rattle.least_clocks.specs.Least.{scan_clocks, least_from}
@@ -82,8 +82,8 @@ module _ (net : Net) (form : Items) (device : Device) where
   from f l r h ws = least_from net form device (state f l r h) ws
 
   abbrev scans : Bool → (Branch → Bool) → Bool → ℕ
-  scans false passed on = path_bits net form passed + 5
-  scans true passed on = first_scan net + cond on 0 (path_bits net form passed + 5)
+  scans false passed on = bits_within_rows net form passed + 5
+  scans true passed on = first_scan net + cond on 0 (bits_within_rows net form passed + 5)
 
   abbrev round : Bool → Bool → Stable → (Branch → Bool) → Bool → ℕ
   round f l r passed on = clocks_to_idle r + (clocks_to_link device l + scans f passed on)

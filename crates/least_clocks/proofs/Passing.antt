@@ -17,7 +17,8 @@ use Rattle.net_tree.specs.Places.{place_of}
 use Rattle.path_planner.proofs.Among.{Among, among-cases, among-flat_back, contains_among, on_true, true_all}
 use Rattle.path_planner.proofs.Inside.{open_path, path_open}
 use Rattle.svf_audit.proofs.Telling.{any_of}
-use Rattle.least_clocks.specs.Inside.{same_branch, is_one_of, is_inside, bits_along, bits_inside, path_bits}
+use Rattle.least_clocks.specs.Inside.{same_branch, is_one_of, is_inside, bits_along, bits_inside}
+use Rattle.least_clocks.specs.Inside.{bits_within_rows}
 use Rattle.least_clocks.specs.Least.{rows_around}
 
 or_sum : (a b : Bool) (w : ℕ) → cond (a || b) w 0 ≤ cond a w 0 + cond b w 0
@@ -89,7 +90,7 @@ module _ (net : Net) (form : Items) (d : Describes net form) (holds : Holds) (pa
         (λ t. let here = ap (width_if net r) t in omega (arith, so_far, here))
         (cases_Bool (is_inside form passed r))
 
-    pub path_least : path_bits net form passed ≤ total path (widths net)
+    pub path_least : bits_within_rows net form passed ≤ total path (widths net)
     path_least =
         let all = inside_least (length net.regs.items) (omega arith) in
         omega (arith, all, all_on net path (length net.regs.items))

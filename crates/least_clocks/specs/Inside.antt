@@ -27,8 +27,8 @@ bits_inside net form passed (suc r) =
     bits_inside net form passed r + cond (is_inside form passed r) (width_of net r) 0
 
 -- of all registers
-abbrev pub path_bits : Net → Items → (Branch → Bool) → ℕ
-path_bits net form passed = bits_inside net form passed (length net.regs.items)
+abbrev pub bits_within_rows : Net → Items → (Branch → Bool) → ℕ
+bits_within_rows net form passed = bits_inside net form passed (length net.regs.items)
 
 -- the bits of the registers of a path
 abbrev pub bits_along : Net → List ℕ → ℕ

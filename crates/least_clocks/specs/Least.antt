@@ -17,7 +17,7 @@ use Rattle.net_tree.specs.Places.{place_of}
 use Rattle.tap_machine.specs.declared.Stable.{Stable}
 use Rattle.tap_machine.specs.declared.Stable.TheVariants.{Reset as InReset, Idle as InIdle}
 use Rattle.svf_audit.specs.Work.{Work, Group, Cycle, Reset, all_work, has_value, is_redundant}
-use Rattle.least_clocks.specs.Inside.{bits_along, is_one_of, path_bits}
+use Rattle.least_clocks.specs.Inside.{bits_along, is_one_of, bits_within_rows}
 
 -- the registers of which a round changes a bit, and those of which it reads one
 abbrev pub changed : Holds → SeenGroup → List ℕ
@@ -77,7 +77,7 @@ start net = record { fresh = true; linked = false; rest = InReset; holds = start
 -- a data scan takes 3 clocks to Shift-DR and 2 back, as many as the path has bits between: the scan of a
 -- round, and the first one since power-up
 abbrev pub own_scan : Net → Items → Holds → SeenGroup → ℕ
-own_scan net form holds g = path_bits net form (is_passed form holds g) + 5
+own_scan net form holds g = bits_within_rows net form (is_passed form holds g) + 5
 
 abbrev pub first_scan : Net → ℕ
 first_scan net = bits_along net (first_path net) + 5

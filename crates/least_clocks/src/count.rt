@@ -14,7 +14,7 @@ ghost use Rattle.least_clocks.specs.Counting.{Counts, state_of};
 ghost use Rattle.least_clocks.specs.Least.{start, clocks_to_idle, clocks_to_link};
 
 use crate::first::scan_clocks;
-use crate::inside::path_bits;
+use crate::inside::bits_within_rows;
 use crate::rows::passed_rows;
 use crate::work::{is_redundant, write_group};
 use ij_bits::OutOfMemory;
@@ -54,7 +54,7 @@ impl Count {
     }
 
     /// Goes to Run-Test/Idle.
-    fn leave(&mut self)
+    fn go_to_idle(&mut self)
         requires { self.old.clocks < 2 ^ 63 }
         ensures state { self.new ≡ record self.old
             { rest = Stable.Idle; clocks = self.old.clocks + clocks_to_idle self.old.rest } }
@@ -67,7 +67,7 @@ impl Count {
     }
 
     /// Brings the link's instruction into force.
-    fn link(&mut self, device: &Device)
+    fn load_link_instruction(&mut self, device: &Device)
         requires { self.old.clocks < 2 ^ 63 + 2 ^ 32 }
         ensures state { self.new ≡ record self.old
             { linked = true; clocks = self.old.clocks + clocks_to_link device.now self.old.linked } }
@@ -93,8 +93,8 @@ impl Count {
             } }
         ensures few { self.new.clocks ≤ self.old.clocks + 2 ^ 47 }
     {
-        self.leave();
-        self.link(device);
+        self.go_to_idle();
+        self.load_link_instruction(device);
         self.clocks += clocks;
         self.fresh = false;
     }
@@ -121,7 +121,7 @@ impl Count {
             return Ok(());
         }
         let rows = passed_rows(alloc, tree, &self.holds, group)?;
-        let own = path_bits(net, tree, rows.as_slice()) + 5;
+        let own = bits_within_rows(net, tree, rows.as_slice()) + 5;
         let clocks = scan_clocks(alloc, net, self.fresh, &self.holds, group, own)?;
         self.scan(device, clocks);
         write_group(&mut self.holds, group);
@@ -161,7 +161,7 @@ impl Count {
         ensures holds { self.new.holds ≡ self.old.holds }
     {
         if cycles > 0 {
-            self.leave();
+            self.go_to_idle();
             self.clocks += u64::from(cycles);
         }
     }
@@ -175,7 +175,7 @@ impl Count {
         ensures few { self.new.clocks ≤ self.old.clocks + 2 ^ 33 }
         ensures holds { AreHolds net.now self.new.holds }
     {
-        self.leave();
+        self.go_to_idle();
         self.clocks += 5;
         self.linked = false;
         self.rest = Stable::Reset;

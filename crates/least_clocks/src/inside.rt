@@ -20,9 +20,9 @@ fn is_inside(tree: &Tree, rows: &[Branch], reg: u32) -> bool
 }
 
 /// The bits of the registers around which no row is but these.
-pub(crate) fn path_bits(net: &Net, tree: &Tree, rows: &[Branch]) -> u64
+pub(crate) fn bits_within_rows(net: &Net, tree: &Tree, rows: &[Branch]) -> u64
     requires { IsNet net.now }
-    ensures bits { result ≡ inside.path_bits net.now tree.now (inside.is_one_of rows.now) }
+    ensures bits { result ≡ inside.bits_within_rows net.now tree.now (inside.is_one_of rows.now) }
     ensures few { result ≤ 4096 * 2 ^ 32 }
 {
     let mut bits = 0u64;

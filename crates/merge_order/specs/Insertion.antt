@@ -36,15 +36,15 @@ put_round places h (join ∷ joins) =
     cond (takes places join h) (with_round join h ∷ joins) (join ∷ put_round places h joins)
 
 -- an iApply of one round goes where its round goes, and any other is a join after
-abbrev pub put_in : Places → List (List SeenGroup) → List SeenGroup → List (List SeenGroup)
-put_in places joins [] = joins ++ [] ∷ []
-put_in places joins (h ∷ []) = put_round places h joins
-put_in places joins (h ∷ i ∷ more) = joins ++ (h ∷ i ∷ more) ∷ []
+abbrev pub put_apply : Places → List (List SeenGroup) → List SeenGroup → List (List SeenGroup)
+put_apply places joins [] = joins ++ [] ∷ []
+put_apply places joins (h ∷ []) = put_round places h joins
+put_apply places joins (h ∷ i ∷ more) = joins ++ (h ∷ i ∷ more) ∷ []
 
 -- one iApply after the other
 abbrev pub put_all : Places → List (List SeenGroup) → List (List SeenGroup) → List (List SeenGroup)
 put_all places joins [] = joins
-put_all places joins (a ∷ applies) = put_all places (put_in places joins a) applies
+put_all places joins (a ∷ applies) = put_all places (put_apply places joins a) applies
 
 -- ---- by number
 

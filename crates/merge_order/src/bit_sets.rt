@@ -12,7 +12,7 @@ ghost use Rattle.merge_order.specs.Tables.{AreStamped, has_bit, is_shut, names_o
 
 use ij_bits::OutOfMemory;
 use net_graph::{BitId, Group, ReadBit, WriteBit};
-use pdl_targets::{RoundSet, either};
+use pdl_targets::{RoundSet, bits_of_either};
 use std::alloc::Global;
 use std::marker::Model;
 
@@ -65,7 +65,13 @@ impl RegSets {
     }
 
     /// A join names the bit at a position.
-    fn put(&mut self, alloc: Global, stamp: u32, pos: u32, join: u32) -> Result<(), OutOfMemory>
+    fn note_join(
+        &mut self,
+        alloc: Global,
+        stamp: u32,
+        pos: u32,
+        join: u32,
+    ) -> Result<(), OutOfMemory>
         ensures put { OnOk result ((p k : ℕ) → has_round stamp (row_at self.new p) k
             ≡ (k == join && p == pos || has_round stamp (row_at self.old p) k)) }
         ensures stamps { AreStamped stamp self.old → AreStamped stamp self.new }
@@ -90,7 +96,7 @@ fn grow_regs(alloc: Global, regs: &mut Vec<RegSets>, len: usize) -> Result<(), O
 }
 
 /// A join names a bit.
-fn put(
+fn note_join(
     alloc: Global,
     regs: &mut Vec<RegSets>,
     stamp: u32,
@@ -106,7 +112,7 @@ fn put(
     let reg = bit.reg as usize;
     grow_regs(alloc, regs, reg + 1)?;
     let sets = &mut regs[reg];
-    sets.put(alloc, stamp, bit.pos, join)?;
+    sets.note_join(alloc, stamp, bit.pos, join)?;
     Ok(())
 }
 
@@ -174,7 +180,7 @@ impl BitSets {
             → has_bit self.new b k ≡ (k == join && same_place b bit || has_bit self.old b k)) }
         ensures closed { OnOk result ((k : ℕ) → is_shut self.new k ≡ is_shut self.old k) }
     {
-        put(self.alloc, &mut self.regs, self.stamp, bit, join)
+        note_join(self.alloc, &mut self.regs, self.stamp, bit, join)
     }
 
     /// A join names the bits of some writes.
@@ -231,7 +237,7 @@ impl BitSets {
     {
         let mut word = 0;
         for write in writes {
-            word = either(word, self.bit_word(write.bit, w));
+            word = bits_of_either(word, self.bit_word(write.bit, w));
         }
         word
     }
@@ -243,7 +249,7 @@ impl BitSets {
     {
         let mut word = 0;
         for read in reads {
-            word = either(word, self.bit_word(read.bit, w));
+            word = bits_of_either(word, self.bit_word(read.bit, w));
         }
         word
     }
@@ -262,7 +268,7 @@ impl BitSets {
     {
         let written = self.written_word(group.writes.as_slice(), w);
         let read = self.read_word(group.reads.as_slice(), w);
-        either(written, read)
+        bits_of_either(written, read)
     }
 
     /// The joins from `64 * w` on that nothing joins, or that name a bit that a round names. Takes no memory.
@@ -272,6 +278,6 @@ impl BitSets {
     {
         let closed = self.closed_word(w);
         let named = self.named_word(group, w);
-        either(closed, named)
+        bits_of_either(closed, named)
     }
 }

@@ -16,7 +16,7 @@ use std::alloc::Global;
 
 /// Goes through the bit steps that are left and keeps none.
 #[tactic(auto, using(crate::proofs::StepRefusing::refused_ends))]
-fn pass(steps: &mut BitSteps) -> Result<(), StepFault>
+fn drain_steps(steps: &mut BitSteps) -> Result<(), StepFault>
     ensures passes { IfOk result (λ u. steps.old.fault ≡ None) }
     ensures refused { IfErr result (EndsIn steps.old.fault) }
 {
@@ -47,7 +47,7 @@ pub fn check(
         (EndsIn (bit_steps (map seen_proc procs.now) net.now tree.now name.now).fault) }
 {
     let mut steps = BitSteps::new(alloc, procs, net, tree, name)?;
-    let passed = pass(&mut steps);
+    let passed = drain_steps(&mut steps);
     // What is let go of is let go of by a call: the prover goes through its parts once.
     drop(steps);
     passed

@@ -3,7 +3,7 @@ ghost use Rattle.std.specs.Prelude.{◌≡◌, ◌≤◌, ◌++◌, ◌∷◌, [
 ghost use Rattle.net_graph.specs.SeenSteps.{seen_group};
 ghost use Rattle.pdl_targets.specs.SeenPlaces.{places_in};
 ghost use Rattle.pdl_targets.specs.SeenRounds.{seen_groups};
-ghost use Rattle.merge_order.specs.Insertion.{is_closed, join_at, put_at, put_in, put_round, with_round};
+ghost use Rattle.merge_order.specs.Insertion.{is_closed, join_at, put_at, put_apply, put_round, with_round};
 ghost use Rattle.merge_order.specs.Merge as merge;
 ghost use Rattle.merge_order.specs.Named.{Tells};
 ghost use Rattle.merge_order.specs.SeenJoins.{seen_applies, seen_joins};
@@ -35,7 +35,7 @@ fn add_round(join: &mut [Group], round: &Group) -> Result<(), OutOfMemory>
 }
 
 /// A join of one round.
-fn alone(alloc: Global, round: &Group) -> Result<Vec<Group>, OutOfMemory>
+fn join_of_round(alloc: Global, round: &Group) -> Result<Vec<Group>, OutOfMemory>
     ensures { IfOk result (λ j. seen_groups j.items ≡ seen_group round.now ∷ []) }
 {
     let mut join = Vec::with_capacity(alloc, 1)?;
@@ -61,7 +61,7 @@ fn put_at(
     } else {
         // The room comes first: no end of this function lets go of a join.
         joins.reserve(1)?;
-        joins.push_reserved(alone(alloc, round)?);
+        joins.push_reserved(join_of_round(alloc, round)?);
     }
     Ok(())
 }
@@ -108,7 +108,7 @@ fn put_rounds(
 }
 
 /// Puts an iApply into the first join that can take it, or after the joins.
-fn put_in(
+fn put_apply(
     alloc: Global,
     tree: &Tree,
     named: &mut Named,
@@ -117,7 +117,7 @@ fn put_in(
 ) -> Result<(), OutOfMemory>
     requires { Tells (places_in tree.now) named.old (seen_joins joins.old.items) }
     ensures joins { OnOk result (seen_joins joins.new.items
-        ≡ put_in (places_in tree.now) (seen_joins joins.old.items) (seen_groups rounds.now)) }
+        ≡ put_apply (places_in tree.now) (seen_joins joins.old.items) (seen_groups rounds.now)) }
     ensures tells { OnOk result (Tells (places_in tree.now) named.new (seen_joins joins.new.items)) }
 {
     match rounds {
@@ -139,7 +139,7 @@ pub(crate) fn all_joins(
     named.clear();
     let mut joins = Vec::new(alloc);
     for rounds in applies {
-        put_in(alloc, tree, named, &mut joins, rounds)?;
+        put_apply(alloc, tree, named, &mut joins, rounds)?;
     }
     Ok(joins)
 }

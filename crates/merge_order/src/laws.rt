@@ -37,7 +37,7 @@ pub fn merges_do_their_branches()
 /// - `rounds`: rounds of all their iApplys.
 /// - `cycles`: cycles of all their iRunLoops.
 /// - `runs`: no run is longer than the longest of a branch.
-pub fn merges_are_few()
+pub fn merges_add_no_work()
     ensures steps { MergedStepsAreFew }
     ensures rounds { MergedRoundsAreFew }
     ensures cycles { MergedCyclesAreFew }

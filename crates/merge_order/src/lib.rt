@@ -29,7 +29,7 @@ pub use checking::check;
 pub use fault::FeedFault;
 pub use feeder::Feeder;
 pub use laws::{
-    fed_steps_are_few, fed_steps_are_of_the_network, merges_are_few, merges_are_of_the_network,
+    fed_steps_are_few, fed_steps_are_of_the_network, merges_add_no_work, merges_are_of_the_network,
     merges_do_their_branches, merges_of_one_branch, steps_without_merges_are_bound,
 };
 pub use next::next_step;

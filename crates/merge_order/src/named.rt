@@ -12,7 +12,7 @@ ghost use Rattle.merge_order.specs.Tables.{SameRows, rows_around};
 use crate::bit_sets::BitSets;
 use ij_bits::OutOfMemory;
 use net_graph::{Branch, Group};
-use pdl_targets::{RowSets, either, first_open};
+use pdl_targets::{RowSets, bits_of_either, first_open};
 use std::alloc::Global;
 use std::cmp::min;
 
@@ -24,7 +24,7 @@ pub(crate) struct Named {
 }
 
 /// The lower of two numbers.
-fn lower(first: u32, second: u32) -> u32
+fn smaller_of(first: u32, second: u32) -> u32
     ensures within { result ≤ second }
     ensures before { result ≤ first }
     ensures same { result < second → result ≡ first }
@@ -82,11 +82,11 @@ impl Named {
         let w = w as usize;
         let named = self.bits.word(group, w);
         let excluded = self.rows.excluded_word(around, w);
-        either(named, excluded)
+        bits_of_either(named, excluded)
     }
 
     /// The first of 64 joins from `64 * w` on that doesn't refuse a round, counted from there.
-    fn first_in(&self, group: &Group, around: &[Branch], w: u32) -> Option<u32>
+    fn first_open_in_word(&self, group: &Group, around: &[Branch], w: u32) -> Option<u32>
         ensures none { IfNone result ((j : ℕ) → j < 64
             → refuses self.now (seen_group group.now) around.now (64 * w + j) ≡ true) }
         ensures low { IfSome result (λ k. k < 64) }
@@ -105,8 +105,8 @@ impl Named {
         ensures at { result < joins → refuses self.now (seen_group group.now) around.now result ≡ false }
     {
         for w in 0..joins / 64 + 1 {
-            if let Some(k) = self.first_in(group, around, w) {
-                return lower(64 * w + k, joins);
+            if let Some(k) = self.first_open_in_word(group, around, w) {
+                return smaller_of(64 * w + k, joins);
             }
         }
         joins

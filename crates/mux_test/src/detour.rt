@@ -11,7 +11,7 @@ ghost use Rattle.mux_test.specs.Detours.{HasDetourRoom, IsDetour, IsTracedFrom};
 ghost use Rattle.mux_test.specs.KnownRows.{AreKnown};
 
 use crate::known::KnownRows;
-use crate::stuck::{back, meet};
+use crate::stuck::{previous_point, push_met_register};
 use ij_bits::{Buffer, OutOfMemory};
 use net_graph::{Branch, Holds, Net, Point};
 use net_tree::{Tree, same_point};
@@ -107,8 +107,8 @@ impl Detour {
         ensures room { HasDetourRoom net.now self.new }
     {
         let at = self.ahead;
-        if let Some(before) = back(net, None, holds, known, at) {
-            if meet(at, net.regs.len(), &mut self.own) {
+        if let Some(before) = previous_point(net, None, holds, known, at) {
+            if push_met_register(at, net.regs.len(), &mut self.own) {
                 self.ahead = before;
             }
         }
@@ -175,10 +175,10 @@ impl Detour {
             if is_join(at, self.ahead, row.mux) {
                 return true;
             }
-            if !meet(at, count, &mut self.other) {
+            if !push_met_register(at, count, &mut self.other) {
                 return false;
             }
-            match back(net, Some(row), holds, known, at) {
+            match previous_point(net, Some(row), holds, known, at) {
                 Some(before) => at = before,
                 None => return false,
             }

@@ -12,7 +12,7 @@ ghost use Rattle.mux_test.specs.Given.{seen_test_scan};
 ghost use Rattle.mux_test.specs.Texts.{CanWrite, mark_of, scan_text, scans_text};
 
 use crate::test::{MuxTest, TestScan};
-use ij_io::{Shelf, Sink, StoreFault, SureSink, next_piece, put_last_piece};
+use ij_io::{Shelf, Sink, StoreFault, SureSink, put_last_piece, store_full_piece};
 use net_graph::{Device, Net};
 use std::alloc::Global;
 use svf_writer::{put, put_preface, put_row_mark};
@@ -80,7 +80,7 @@ fn put_scans<'a, S: Shelf>(
     let mut piece = piece;
     while let Some(scan) = test.next()? {
         put_scan(net, scan, &mut piece)?;
-        piece = next_piece(alloc, name, piece, shelf)?;
+        piece = store_full_piece(alloc, name, piece, shelf)?;
     }
     put_last_piece(name, &piece, shelf)
 }

@@ -28,7 +28,7 @@ use crate::stuck::{find_path, is_passed};
 use ij_bits::{Buffer, List, OutOfMemory};
 use net_graph::{Branch, Holds, Net};
 use net_tree::Tree;
-use path_planner::advance;
+use path_planner::take_plan_writes;
 use std::alloc::Global;
 
 /// What the scans so far say of a mux that is stuck in a row.
@@ -98,7 +98,7 @@ fn verdict_of(holds: &Holds, own: &[u32], other: &[u32]) -> Verdict
 }
 
 /// Whether no scan has told a row yet. Takes no memory.
-fn is_open(row: RowVerdict) -> bool
+fn is_row_untold(row: RowVerdict) -> bool
     ensures { IsFalse result → (net : ANet) (holds : SeenHolds) → judged.judged_row net holds row ≡ row }
 {
     matches!(row.verdict, Verdict::Open)
@@ -166,7 +166,7 @@ impl Judge {
 
     /// The same for a mux that the active path goes through, by the parts of the paths that differ where they
     /// join again. Takes no memory.
-    fn verdict_met(&mut self, net: &Net, tree: &Tree, holds: &Holds, row: Branch) -> Verdict
+    fn verdict_at_join(&mut self, net: &Net, tree: &Tree, holds: &Holds, row: Branch) -> Verdict
         requires well_formed { IsNet net.now }
         requires holds { AreHolds net.now holds.now }
         requires row { IsBranchOf net.now row }
@@ -205,7 +205,7 @@ impl Judge {
         if !is_on_path(net, tree, holds, &self.known, row.mux) {
             return Verdict::Open;
         }
-        self.verdict_met(net, tree, holds, row)
+        self.verdict_at_join(net, tree, holds, row)
     }
 
     /// Judges a row. Takes no memory.
@@ -244,7 +244,7 @@ impl Judge {
         ensures ready { IsReady net.now holds.now self.new }
     {
         let row = *rows.get(i);
-        if !is_open(row) {
+        if !is_row_untold(row) {
             return;
         }
         rows.set(i, self.judge(net, tree, holds, row));
@@ -311,7 +311,7 @@ fn judge_scans(
     for scan in scans {
         judge.judge_changed(net, tree, &holds, changed, rows);
         changed = !scan.plan.writes.is_empty();
-        advance(&mut holds, &scan.plan);
+        take_plan_writes(&mut holds, &scan.plan);
     }
     Ok(())
 }

@@ -66,7 +66,7 @@ fn source_of(
 }
 
 /// What is met before a point, going back.
-pub(crate) fn back(
+pub(crate) fn previous_point(
     net: &Net,
     stuck: Option<Branch>,
     holds: &Holds,
@@ -86,7 +86,7 @@ pub(crate) fn back(
 }
 
 /// Adds the register that a point is, and answers whether there was room for it among this many.
-pub(crate) fn meet(at: Point, count: usize, into: &mut Buffer<u32>) -> bool
+pub(crate) fn push_met_register(at: Point, count: usize, into: &mut Buffer<u32>) -> bool
     requires few { length into.old.items ≤ count }
     requires room { count ≤ length into.old.items + into.old.spare }
     ensures room { length into.new.items + into.new.spare ≡ length into.old.items + into.old.spare }
@@ -134,11 +134,11 @@ pub(crate) fn find_path(
         if is_entry(at) {
             return;
         }
-        if !meet(at, count, path) {
+        if !push_met_register(at, count, path) {
             path.clear();
             return;
         }
-        match back(net, stuck, holds, known, at) {
+        match previous_point(net, stuck, holds, known, at) {
             Some(before) => at = before,
             None => {
                 path.clear();

@@ -23,7 +23,7 @@ use crate::planned::{PlannedScan, branches_of, plan_test};
 use ij_bits::{Bits, List, OutOfMemory};
 use net_graph::{Branch, Holds, Net};
 use net_tree::{ScanPlan, Tree};
-use path_planner::advance;
+use path_planner::take_plan_writes;
 use scan_packer::{HeldPath, pack_flush_on};
 use std::alloc::Global;
 use std::marker::Model;
@@ -118,7 +118,7 @@ fn flush_of(
 }
 
 /// Goes on to what is held after the scan of a plan, and to the active path then. Takes no memory.
-fn go_on(net: &Net, tree: &Tree, plan: &ScanPlan, holds: &mut Holds, path: &mut HeldPath)
+fn go_past_scan(net: &Net, tree: &Tree, plan: &ScanPlan, holds: &mut Holds, path: &mut HeldPath)
     requires well_formed { IsNet net.now }
     requires tree { Describes net.now tree.now }
     requires bits { All (λ w. IsHeld holds.old w.bit) plan.now.writes.items }
@@ -129,7 +129,7 @@ fn go_on(net: &Net, tree: &Tree, plan: &ScanPlan, holds: &mut Holds, path: &mut 
     ensures path { IsHeldPath net.now holds.new path.new }
     ensures room { HasPathRoom net.now path.new }
 {
-    advance(holds, plan);
+    take_plan_writes(holds, plan);
     if !plan.writes.is_empty() {
         path.find(net, tree, holds);
     }
@@ -189,7 +189,7 @@ impl<'a> MuxTest<'a> {
             first: planned.first,
             scan,
         };
-        go_on(
+        go_past_scan(
             self.net,
             self.tree,
             &planned.plan,

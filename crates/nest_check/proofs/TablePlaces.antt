@@ -13,7 +13,7 @@ use Rattle.net_tree.specs.declared.mark.Mark.TheVariants.{Reg as RegMark, Mux as
 use Rattle.net_tree.specs.declared.mark.Mark.TheVariants.{End as EndMark}
 use Rattle.nest_check.specs.Scan.{scan}
 use Rattle.nest_check.specs.Tables.{Table, around_at, is_new, noted, level, entered, next_row, outside}
-use Rattle.nest_check.specs.Tables.{note_register, note_mux, step, pass, nothing_named, table, levels_out}
+use Rattle.nest_check.specs.Tables.{note_register, note_mux, step, pass, no_marks_taken, table, levels_out}
 use Rattle.nest_check.specs.Tables.{climbed_on, levels_from, number_of, levels_in}
 use Rattle.nest_check.specs.declared.place.BegunMux.{BegunMux}
 use Rattle.nest_check.specs.declared.tables.MetMux.{MetMux}
@@ -333,13 +333,13 @@ no_number (suc n) (suc i) h = no_number n i (omega (arith, h))
 -- what the tables have of a form's marks
 pub tables_find : (net : Net) (marks : List Mark) (item : Point) → IsPointOf net item
     → levels_in (table net marks) item ≡ scan marks [] item
-unfolding nothing_named
+unfolding no_marks_taken
 tables_find net marks Entry h =
-    pass_finds marks (nothing_named (length net.regs.items) (length net.muxes.items)) Entry
+    pass_finds marks (no_marks_taken (length net.regs.items) (length net.muxes.items)) Entry
     (scan marks [] Entry) (record { levels = []; there = tt; chain = refl; known = refl })
 tables_find net marks (Reg r) h =
     let at = no_number (length net.regs.items) r h in
-    pass_finds marks (nothing_named (length net.regs.items) (length net.muxes.items))
+    pass_finds marks (no_marks_taken (length net.regs.items) (length net.muxes.items))
     (Reg r) (scan marks [] (Reg r))
     (record {
       levels = [];
@@ -349,7 +349,7 @@ tables_find net marks (Reg r) h =
     })
 tables_find net marks (Mux m) h =
     let at = no_number (length net.muxes.items) m h in
-    pass_finds marks (nothing_named (length net.regs.items) (length net.muxes.items))
+    pass_finds marks (no_marks_taken (length net.regs.items) (length net.muxes.items))
     (Mux m) (scan marks [] (Mux m))
     (record {
       levels = [];

@@ -73,12 +73,12 @@ abbrev pub pass : Table → List Mark → Table
 pass t [] = t
 pass t (m ∷ ms) = pass (step t m) ms
 
-unfoldable pub nothing_named : ℕ → ℕ → Table
-nothing_named regs muxes =
+unfoldable pub no_marks_taken : ℕ → ℕ → Table
+no_marks_taken regs muxes =
     record { met = []; here = 0; regs = replicate regs None; muxes = replicate muxes None }
 
 abbrev pub table : Net → List Mark → Table
-table net marks = pass (nothing_named (length net.regs.items) (length net.muxes.items)) marks
+table net marks = pass (no_marks_taken (length net.regs.items) (length net.muxes.items)) marks
 
 -- ---- the levels of an item
 

@@ -31,7 +31,7 @@ pub(crate) struct Tables {
 }
 
 /// Notes where an item is that isn't noted yet.
-fn note(numbers: &mut Vec<Option<usize>>, item: usize, here: usize)
+fn note_level_at(numbers: &mut Vec<Option<usize>>, item: usize, here: usize)
     ensures { numbers.new.items ≡ tables.noted numbers.old.items item here }
 {
     if item < numbers.len() && numbers[item].is_none() {
@@ -88,9 +88,9 @@ impl Tables {
         ensures table { OnOk result (tables.table_of self.new ≡ tables.step (tables.table_of self.old) mark) }
     {
         match mark {
-            Mark::Reg(reg) => note(&mut self.regs, reg as usize, self.here),
+            Mark::Reg(reg) => note_level_at(&mut self.regs, reg as usize, self.here),
             Mark::Mux(mux) => {
-                note(&mut self.muxes, mux as usize, self.here);
+                note_level_at(&mut self.muxes, mux as usize, self.here);
                 self.enter(BegunMux { mux, begun: 0 }, self.here)?;
             }
             Mark::Row => self.next_row(most)?,
@@ -156,10 +156,10 @@ impl Tables {
 }
 
 /// No mark is taken yet.
-#[tactic(auto, unfolding(crate::specs::Tables::nothing_named))]
-fn nothing_named(alloc: Global, net: &Net) -> Result<Tables, OutOfMemory>
+#[tactic(auto, unfolding(crate::specs::Tables::no_marks_taken))]
+fn no_marks_taken(alloc: Global, net: &Net) -> Result<Tables, OutOfMemory>
     ensures { IfOk result (λ t. tables.table_of t
-        ≡ tables.nothing_named (length net.now.regs.items) (length net.now.muxes.items)) }
+        ≡ tables.no_marks_taken (length net.now.regs.items) (length net.now.muxes.items)) }
 {
     Ok(Tables {
         met: Vec::new(alloc),
@@ -173,7 +173,7 @@ fn nothing_named(alloc: Global, net: &Net) -> Result<Tables, OutOfMemory>
 pub(crate) fn tables_of(alloc: Global, net: &Net, marks: &[Mark]) -> Result<Tables, OutOfMemory>
     ensures { IfOk result (λ t. tables.table_of t ≡ tables.table net.now marks.now) }
 {
-    let mut tables = nothing_named(alloc, net)?;
+    let mut tables = no_marks_taken(alloc, net)?;
     for (i, mark) in marks.iter().enumerate() {
         tables.take(*mark, i)?;
     }

@@ -57,7 +57,7 @@ impl Selecting {
 }
 
 /// Notes the select bits of all muxes.
-fn selected_bits(alloc: Global, net: &Net) -> Result<Selecting, OutOfMemory>
+fn selecting_bits(alloc: Global, net: &Net) -> Result<Selecting, OutOfMemory>
     requires { IsNet net.now }
     ensures { IfOk result (λ s. uses.selected_of s
         ≡ uses.note_all (uses.no_flags net.now) (select_bits net.now)) }
@@ -122,7 +122,7 @@ pub(crate) fn uses_of(alloc: Global, net: &Net) -> Result<Uses, OutOfMemory>
     requires { IsNet net.now }
     ensures { IfOk result (uses.AreUses net.now) }
 {
-    let selecting = selected_bits(alloc, net)?;
+    let selecting = selecting_bits(alloc, net)?;
     let drivers = drivers(alloc, net)?;
     Ok(Uses {
         shared: selecting.twice,

@@ -41,7 +41,12 @@ pub fn mark_next(_net: &Net, marks: &mut BitMarks, bit: BitId, count: usize)
 
 /// Where the write of a bit is among some whose bits have the marks of their places, or none. It looks at
 /// one mark. Takes no memory.
-pub fn written_at(_net: &Net, marks: &BitMarks, writes: &[WriteBit], bit: BitId) -> Option<usize>
+pub fn index_of_write(
+    _net: &Net,
+    marks: &BitMarks,
+    writes: &[WriteBit],
+    bit: BitId,
+) -> Option<usize>
     requires { AreNumbered _net.now marks.now (bits_written writes.now) }
     ensures { result ≡ position (λ w. same_place w.bit bit) writes.now }
 {
@@ -59,7 +64,7 @@ pub fn written_at(_net: &Net, marks: &BitMarks, writes: &[WriteBit], bit: BitId)
 
 /// Where the read of a bit is among some whose bits have the marks of their places, or none. It looks at
 /// one mark. Takes no memory.
-pub fn read_at(_net: &Net, marks: &BitMarks, reads: &[ReadBit], bit: BitId) -> Option<usize>
+pub fn index_of_read(_net: &Net, marks: &BitMarks, reads: &[ReadBit], bit: BitId) -> Option<usize>
     requires { AreNumbered _net.now marks.now (bits_compared reads.now) }
     ensures { result ≡ position (λ r. same_place r.bit bit) reads.now }
 {
@@ -77,7 +82,7 @@ pub fn read_at(_net: &Net, marks: &BitMarks, reads: &[ReadBit], bit: BitId) -> O
 
 /// Whether a register is among others, whose first bits have the marks of their places. It looks at one mark.
 /// Takes no memory.
-pub fn is_in(_net: &Net, marks: &BitMarks, registers: &[u32], register: u32) -> bool
+pub fn is_marked_register(_net: &Net, marks: &BitMarks, registers: &[u32], register: u32) -> bool
     requires { AreNumbered _net.now marks.now (first_bits registers.now) }
     ensures { result ≡ list_any (λ q. q == register) registers.now }
 {

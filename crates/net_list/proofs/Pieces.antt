@@ -22,8 +22,9 @@ use Rattle.net_graph.proofs.Routes.{route_in}
 use Rattle.net_graph.proofs.Widths.{chain_fits, started_held}
 use Rattle.net_list.specs.declared.format.ListFormat.{ListFormat}
 use Rattle.net_graph.specs.declared.net.Sig.TheVariants.{Absent}
-use Rattle.net_list.specs.Drivers.{bit_name, driver, drivers, goes_on, is_followed, run_end, run_start}
-use Rattle.net_list.specs.Forms.{either, items, tern_digit, tern_digits}
+use Rattle.net_list.specs.Drivers.{bit_name, driver, drivers, continues_run, is_run_continued, run_end}
+use Rattle.net_list.specs.Drivers.{run_start}
+use Rattle.net_list.specs.Forms.{text_or_json, items, tern_digit, tern_digits}
 use Rattle.net_list.specs.Lines.{quoted, select_bits}
 use Rattle.net_list.specs.Listing.{bit_count, lines_from, start_path_bits, totals_line, totals_text}
 
@@ -86,7 +87,7 @@ digits_next t n m digit more is =
 
 module _ (f : ListFormat) (net : Net) (before : List ℕ) (bits : List BitId) (n m k : ℕ) (b : BitId) where
   abbrev between : List ℕ
-  between = either f (codes " ") (codes ",")
+  between = text_or_json f (codes " ") (codes ",")
 
   abbrev piece : List ℕ
   piece = before ++ quoted f (bit_name net b)
@@ -188,7 +189,7 @@ totals_are f net r b m i p er eb em ei ep =
 
 pub driver_is : (net : Net) (bits : List Sig) (p : ℕ) (s : Sig) (first more followed : Bool)
     → s ≡ get_or bits p Absent → first ≡ (suc p == length bits)
-    → more ≡ goes_on bits p → followed ≡ is_followed bits p
+    → more ≡ continues_run bits p → followed ≡ is_run_continued bits p
     → cond more [] (cond first [] (codes ",") ++ run_start net s)
     ++ cond followed [] (run_end net more s) ≡ driver net bits p
 driver_is net bits p s first more followed es ef em el =
@@ -198,5 +199,5 @@ driver_is net bits p s first more followed es ef em el =
     ++ cond followed [] (run_end net more (get_or bits p Absent))) ef
     ∙ ap (λ (x : Bool). cond x [] (cond (suc p == length bits) [] (codes ",") ++ run_start net
     (get_or bits p Absent)) ++ cond followed [] (run_end net x (get_or bits p Absent))) em
-    ∙ ap (λ (x : Bool). cond (goes_on bits p) [] (cond (suc p == length bits) [] (codes ",") ++ run_start net
-    (get_or bits p Absent)) ++ cond x [] (run_end net (goes_on bits p) (get_or bits p Absent))) el
+    ∙ ap (λ (x : Bool). cond (continues_run bits p) [] (cond (suc p == length bits) [] (codes ",") ++ run_start net
+    (get_or bits p Absent)) ++ cond x [] (run_end net (continues_run bits p) (get_or bits p Absent))) el

@@ -44,13 +44,13 @@ is_left_of (Bit b v) (Out i p q w) = false
 is_left_of (Bit b v) (Bit c w) = same_bit v w && ((b.reg == c.reg) && (b.pos == suc c.pos))
 
 -- whether a position goes on with the run of the one at its left
-abbrev pub goes_on : List Sig → ℕ → Bool
-goes_on bits p = is_left_of (get_or bits (suc p) Absent) (get_or bits p Absent)
+abbrev pub continues_run : List Sig → ℕ → Bool
+continues_run bits p = is_left_of (get_or bits (suc p) Absent) (get_or bits p Absent)
 
 -- whether the position at its right goes on with its run
-abbrev pub is_followed : List Sig → ℕ → Bool
-is_followed bits zero = false
-is_followed bits (suc p) = goes_on bits p
+abbrev pub is_run_continued : List Sig → ℕ → Bool
+is_run_continued bits zero = false
+is_run_continued bits (suc p) = continues_run bits p
 
 -- the beginning of a run: a constant, or a register and the left index; ~ is the inverse
 abbrev pub run_start : Net → Sig → List ℕ
@@ -76,9 +76,9 @@ run_end net more (Out i p q v) = []
 abbrev pub driver : Net → List Sig → ℕ → List ℕ
 driver net bits p =
     let s = get_or bits p Absent in
-    let more = goes_on bits p in
+    let more = continues_run bits p in
     cond more [] (cond (suc p == length bits) [] (codes ",") ++ run_start net s)
-    ++ cond (is_followed bits p) [] (run_end net more s)
+    ++ cond (is_run_continued bits p) [] (run_end net more s)
 
 -- the lowest n positions, the highest first
 abbrev pub drivers : Net → List Sig → ℕ → List ℕ

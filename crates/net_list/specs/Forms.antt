@@ -6,13 +6,13 @@ use Rattle.net_list.specs.declared.format.ListFormat.{ListFormat}
 use Rattle.net_list.specs.declared.format.ListFormat.TheVariants.{Text, Json}
 
 -- what is in text, and in JSON
-abbrev pub either : ListFormat → List ℕ → List ℕ → List ℕ
-either Text text json = text
-either Json text json = json
+abbrev pub text_or_json : ListFormat → List ℕ → List ℕ → List ℕ
+text_or_json Text text json = text
+text_or_json Json text json = json
 
 -- a field that is a number
 abbrev pub counted : ListFormat → List ℕ → List ℕ → ℕ → List ℕ
-counted f text json n = either f text json ++ decimal n
+counted f text json n = text_or_json f text json ++ decimal n
 
 -- items with something between them, and something before the first
 abbrev pub items : {T : Type 0} → (T → List ℕ) → List ℕ → List ℕ → List T → List ℕ
@@ -23,8 +23,8 @@ items item between before (x ∷ xs) = before ++ (item x ++ items item between b
 -- commas between; text has nothing for an empty one
 abbrev pub listed : {T : Type 0} → ListFormat → List ℕ → List ℕ → (T → List ℕ) → List T → List ℕ
 listed f text json item xs =
-    either f [] json
-    ++ (items item (either f (codes " ") (codes ",")) (either f text []) xs ++ either f [] (codes "]"))
+    text_or_json f [] json
+    ++ (items item (text_or_json f (codes " ") (codes ",")) (text_or_json f text []) xs ++ text_or_json f [] (codes "]"))
 
 -- the digit of a bit, an x (120) where it is open
 abbrev pub tern_digit : Tern → ℕ → ℕ

@@ -19,17 +19,17 @@ use Rattle.path_planner.specs.Settling.{values_of}
 use Rattle.net_list.specs.declared.format.ListFormat.{ListFormat}
 use Rattle.net_list.specs.Drivers.{bit_name, drivers, register_path}
 use Rattle.net_list.specs.Fewest.{fewest_scans}
-use Rattle.net_list.specs.Forms.{either, counted, items, listed, values_text, tern_text}
+use Rattle.net_list.specs.Forms.{text_or_json, counted, items, listed, values_text, tern_text}
 
 -- a name, in JSON in quotes (34)
 abbrev pub quoted : ListFormat → List ℕ → List ℕ
-quoted f name = either f [] (codes "\"") ++ (name ++ either f [] (codes "\""))
+quoted f name = text_or_json f [] (codes "\"") ++ (name ++ text_or_json f [] (codes "\""))
 
 -- a row, by its mux and its select values
 abbrev pub branch_text : ListFormat → Net → Branch → List ℕ
 branch_text f net b =
-    either f [] (codes "[\"") ++ (mux_path net b.mux ++ (either f (codes "=") (codes "\",\"")
-    ++ (values_text (values_of net b) ++ either f [] (codes "\"]"))))
+    text_or_json f [] (codes "[\"") ++ (mux_path net b.mux ++ (text_or_json f (codes "=") (codes "\",\"")
+    ++ (values_text (values_of net b) ++ text_or_json f [] (codes "\"]"))))
 
 -- the rows around an item, outermost first
 abbrev pub place_text : ListFormat → Net → List Branch → List ℕ
@@ -40,12 +40,12 @@ abbrev pub selects_in : Net → ℕ → ℕ → Bool
 selects_in net r m = list_any (λ b. b.reg == r) (selects_of net m)
 
 -- the muxes in which the register selects
-abbrev pub selected_by : Net → ℕ → List ℕ
-selected_by net r = filter (selects_in net r) (range_with_len 0 (length net.muxes.items))
+abbrev pub muxes_selected_by : Net → ℕ → List ℕ
+muxes_selected_by net r = filter (selects_in net r) (range_with_len 0 (length net.muxes.items))
 
 abbrev pub selects_text : ListFormat → Net → ℕ → List ℕ
 selects_text f net r =
-    listed f (codes " selects ") (codes ",\"selects\":[") (λ m. quoted f (mux_path net m)) (selected_by net r)
+    listed f (codes " selects ") (codes ",\"selects\":[") (λ m. quoted f (mux_path net m)) (muxes_selected_by net r)
 
 -- the reset value, with an x for each bit that has none
 abbrev pub reset_text : Net → ℕ → List ℕ
@@ -57,11 +57,11 @@ width_text f net r = counted f (codes " bits ") (codes "\",\"bits\":") (width_of
 -- a register with its place, and in how many scans it is reached
 abbrev pub register_text : ListFormat → Net → ℕ → List Branch → ℕ → List ℕ
 register_text f net r place scans =
-    either f (codes "register ") (codes "{\"register\":\"")
-    ++ (register_path net r ++ (width_text f net r ++ (either f (codes " reset ") (codes ",\"reset\":\"")
+    text_or_json f (codes "register ") (codes "{\"register\":\"")
+    ++ (register_path net r ++ (width_text f net r ++ (text_or_json f (codes " reset ") (codes ",\"reset\":\"")
     ++ (reset_text net r ++ (counted f (codes " depth ") (codes "\",\"depth\":") (length place)
     ++ (counted f (codes " scans ") (codes ",\"scans\":") scans
-    ++ (place_text f net place ++ (selects_text f net r ++ either f (codes "\n") (codes "}\n")))))))))
+    ++ (place_text f net place ++ (selects_text f net r ++ text_or_json f (codes "\n") (codes "}\n")))))))))
 
 abbrev pub register_line : ListFormat → Net → Items → ℕ → List ℕ
 register_line f net form r = register_text f net r (place_of form (Reg r)) (fewest_scans net form r)
@@ -71,16 +71,16 @@ abbrev pub select_bits : ListFormat → Net → List ℕ → List BitId → ℕ 
 select_bits f net before bits zero = []
 select_bits f net before bits (suc n) =
     before ++ (quoted f (bit_name net (get_or bits n (record { reg = 0; pos = 0 })))
-    ++ select_bits f net (either f (codes " ") (codes ",")) bits n)
+    ++ select_bits f net (text_or_json f (codes " ") (codes ",")) bits n)
 
 -- a row's select values: in text on a line of its own, after the mux
 abbrev pub row_text : ListFormat → Net → ℕ → Row → List ℕ
 row_text f net m row =
-    either f (codes "row ") (codes "\"") ++ (either f (mux_path net m ++ codes "=") []
-    ++ (values_text row.values.items ++ either f (codes "\n") (codes "\"")))
+    text_or_json f (codes "row ") (codes "\"") ++ (text_or_json f (mux_path net m ++ codes "=") []
+    ++ (values_text row.values.items ++ text_or_json f (codes "\n") (codes "\"")))
 
 abbrev pub rows_text : ListFormat → Net → ℕ → List ℕ
-rows_text f net m = items (row_text f net m) (either f [] (codes ",")) [] (rows_of net m)
+rows_text f net m = items (row_text f net m) (text_or_json f [] (codes ",")) [] (rows_of net m)
 
 abbrev pub selects_of_text : ListFormat → Net → ℕ → List ℕ
 selects_of_text f net m = select_bits f net [] (selects_of net m) (length (selects_of net m))
@@ -90,10 +90,10 @@ row_count_text f net m = counted f (codes " rows ") (codes "\",\"rows\":") (leng
 
 abbrev pub mux_text : ListFormat → Net → ℕ → ℕ → List ℕ
 mux_text f net m depth =
-    either f (codes "mux ") (codes "{\"mux\":\"")
-    ++ (mux_path net m ++ (row_count_text f net m ++ (either f (codes " select ") (codes ",\"select\":[")
-    ++ (selects_of_text f net m ++ (counted f (codes " depth ") (codes "],\"depth\":") depth ++ (either f
-    (codes "\n") (codes ",\"values\":[") ++ (rows_text f net m ++ either f [] (codes "]}\n"))))))))
+    text_or_json f (codes "mux ") (codes "{\"mux\":\"")
+    ++ (mux_path net m ++ (row_count_text f net m ++ (text_or_json f (codes " select ") (codes ",\"select\":[")
+    ++ (selects_of_text f net m ++ (counted f (codes " depth ") (codes "],\"depth\":") depth ++ (text_or_json f
+    (codes "\n") (codes ",\"values\":[") ++ (rows_text f net m ++ text_or_json f [] (codes "]}\n"))))))))
 
 abbrev pub mux_line : ListFormat → Net → Items → ℕ → List ℕ
 mux_line f net form m = mux_text f net m (length (place_of form (Mux m)))
@@ -101,22 +101,22 @@ mux_line f net form m = mux_text f net m (length (place_of form (Mux m)))
 -- a data input, with what drives it, and a data output
 abbrev pub input_text : ListFormat → Net → PortIn → List ℕ
 input_text f net port =
-    either f (codes "in ") (codes "{\"port\":\"") ++ (port.name.items ++ (counted f (codes " ")
-    (codes "\",\"bits\":") (length port.bits.items) ++ (either f (codes " from ") (codes ",\"from\":\"")
-    ++ (drivers net port.bits.items (length port.bits.items) ++ either f [] (codes "\"}")))))
+    text_or_json f (codes "in ") (codes "{\"port\":\"") ++ (port.name.items ++ (counted f (codes " ")
+    (codes "\",\"bits\":") (length port.bits.items) ++ (text_or_json f (codes " from ") (codes ",\"from\":\"")
+    ++ (drivers net port.bits.items (length port.bits.items) ++ text_or_json f [] (codes "\"}")))))
 
 abbrev pub output_text : ListFormat → PortOut → List ℕ
 output_text f port =
-    either f (codes "out ") (codes "{\"port\":\"") ++ (port.name.items
-    ++ (counted f (codes " ") (codes "\",\"bits\":") port.width ++ either f [] (codes "}")))
+    text_or_json f (codes "out ") (codes "{\"port\":\"") ++ (port.name.items
+    ++ (counted f (codes " ") (codes "\",\"bits\":") port.width ++ text_or_json f [] (codes "}")))
 
 -- ports, in JSON in two lists
 abbrev pub port_lists : ListFormat → Net → List PortIn → List PortOut → List ℕ
 port_lists f net ins outs =
-    let between = either f (codes " ") (codes ",") in
-    let first = either f (codes " ") [] in
-    either f [] (codes ",\"in\":[") ++ (items (input_text f net) between first ins ++ (either f []
-    (codes "],\"out\":[") ++ (items (output_text f) between first outs ++ either f [] (codes "]"))))
+    let between = text_or_json f (codes " ") (codes ",") in
+    let first = text_or_json f (codes " ") [] in
+    text_or_json f [] (codes ",\"in\":[") ++ (items (input_text f net) between first ins ++ (text_or_json f []
+    (codes "],\"out\":[") ++ (items (output_text f) between first outs ++ text_or_json f [] (codes "]"))))
 
 abbrev pub ports_text : ListFormat → Net → ℕ → List ℕ
 ports_text f net i =
@@ -129,5 +129,5 @@ instrument_path net i = instance_path net (get_or (map (λ inst. inst.node) net.
 
 abbrev pub instrument_line : ListFormat → Net → ℕ → List ℕ
 instrument_line f net i =
-    either f (codes "instrument ") (codes "{\"instrument\":\"") ++ (instrument_path net i
-    ++ (either f [] (codes "\"") ++ (ports_text f net i ++ either f (codes "\n") (codes "}\n"))))
+    text_or_json f (codes "instrument ") (codes "{\"instrument\":\"") ++ (instrument_path net i
+    ++ (text_or_json f [] (codes "\"") ++ (ports_text f net i ++ text_or_json f (codes "\n") (codes "}\n"))))

@@ -7,7 +7,7 @@ use Rattle.net_graph.specs.Path.{route_of}
 use Rattle.net_graph.specs.Resets.{start_holds}
 use Rattle.net_tree.specs.Form.{Items}
 use Rattle.net_list.specs.declared.format.ListFormat.{ListFormat}
-use Rattle.net_list.specs.Forms.{either, counted}
+use Rattle.net_list.specs.Forms.{text_or_json, counted}
 use Rattle.net_list.specs.Lines.{register_line, mux_line, instrument_line}
 
 -- the lines of n things from number i on
@@ -28,7 +28,7 @@ totals_text f regs bits muxes insts path =
     counted f (codes "network registers ") (codes "{\"network\":{\"registers\":") regs ++ (counted f
     (codes " bits ") (codes ",\"bits\":") bits ++ (counted f (codes " muxes ") (codes ",\"muxes\":") muxes
     ++ (counted f (codes " instruments ") (codes ",\"instruments\":") insts ++ (counted f
-    (codes " path at reset ") (codes ",\"path\":") path ++ either f (codes "\n") (codes "}}\n")))))
+    (codes " path at reset ") (codes ",\"path\":") path ++ text_or_json f (codes "\n") (codes "}}\n")))))
 
 abbrev pub totals_line : ListFormat → Net → List ℕ
 totals_line f net =

@@ -32,19 +32,19 @@ fn is_left_of(left: Sig, right: Sig) -> bool
 }
 
 /// Whether a position goes on with the run of the one at its left.
-fn goes_on(bits: &[Sig], pos: usize) -> bool
+fn continues_run(bits: &[Sig], pos: usize) -> bool
     requires { pos < length bits.now }
-    ensures { result ≡ drivers.goes_on bits.now pos }
+    ensures { result ≡ drivers.continues_run bits.now pos }
 {
     pos + 1 < bits.len() && is_left_of(bits[pos + 1], bits[pos])
 }
 
 /// Whether the position at its right goes on with its run.
-fn is_followed(bits: &[Sig], pos: usize) -> bool
+fn is_run_continued(bits: &[Sig], pos: usize) -> bool
     requires { pos < length bits.now }
-    ensures { result ≡ drivers.is_followed bits.now pos }
+    ensures { result ≡ drivers.is_run_continued bits.now pos }
 {
-    pos > 0 && goes_on(bits, pos - 1)
+    pos > 0 && continues_run(bits, pos - 1)
 }
 
 /// A tilde, for a signal that is a bit's inverse.
@@ -116,7 +116,7 @@ fn put_run<K: Sink>(net: &Net, first: bool, signal: Sig, k: &mut K) -> Result<()
 /// Writes what a position begins with: a run, or nothing where it goes on with one.
 fn put_pos_start<K: Sink>(
     net: &Net,
-    goes_on: bool,
+    continues_run: bool,
     first: bool,
     signal: Sig,
     k: &mut K,
@@ -124,12 +124,12 @@ fn put_pos_start<K: Sink>(
     requires well_formed { IsNet net.now }
     requires there { IsInputOf net.now signal }
     ensures whole { OnOk result (Adds (K.taken k.old) (K.taken k.new)
-        (cond goes_on [] (cond first [] (codes ",") ++ drivers.run_start net.now signal))) }
+        (cond continues_run [] (cond first [] (codes ",") ++ drivers.run_start net.now signal))) }
     ensures part { OnErr result (AddsPart (K.taken k.old) (K.taken k.new)
-        (cond goes_on [] (cond first [] (codes ",") ++ drivers.run_start net.now signal))) }
+        (cond continues_run [] (cond first [] (codes ",") ++ drivers.run_start net.now signal))) }
     ensures cause { HasCause (K.faults k.old) (K.faults k.new) result StoreFault.Failed }
 {
-    if goes_on {
+    if continues_run {
         k.write(b"")
     } else {
         put_run(net, first, signal, k)
@@ -175,7 +175,7 @@ fn put_run_end<K: Sink>(net: &Net, more: bool, signal: Sig, k: &mut K) -> Result
 /// Writes what a position ends with: the end of its run, or nothing where the run goes on.
 fn put_pos_end<K: Sink>(
     net: &Net,
-    is_followed: bool,
+    is_run_continued: bool,
     more: bool,
     signal: Sig,
     k: &mut K,
@@ -183,12 +183,12 @@ fn put_pos_end<K: Sink>(
     requires well_formed { IsNet net.now }
     requires there { IsInputOf net.now signal }
     ensures whole { OnOk result
-        (Adds (K.taken k.old) (K.taken k.new) (cond is_followed [] (drivers.run_end net.now more signal))) }
+        (Adds (K.taken k.old) (K.taken k.new) (cond is_run_continued [] (drivers.run_end net.now more signal))) }
     ensures part { OnErr result (AddsPart (K.taken k.old) (K.taken k.new)
-        (cond is_followed [] (drivers.run_end net.now more signal))) }
+        (cond is_run_continued [] (drivers.run_end net.now more signal))) }
     ensures cause { HasCause (K.faults k.old) (K.faults k.new) result StoreFault.Failed }
 {
-    if is_followed {
+    if is_run_continued {
         k.write(b"")
     } else {
         put_run_end(net, more, signal, k)
@@ -223,8 +223,8 @@ fn put_driver<K: Sink>(net: &Net, bits: &[Sig], pos: usize, k: &mut K) -> Result
 {
     let signal = signal_at(bits, pos);
     let first = is_leftmost(bits, pos);
-    let more = goes_on(bits, pos);
-    let followed = is_followed(bits, pos);
+    let more = continues_run(bits, pos);
+    let followed = is_run_continued(bits, pos);
     put_pos_start(net, more, first, signal, k)?;
     put_pos_end(net, followed, more, signal, k)?;
     Ok(())

@@ -16,8 +16,8 @@ pub enum ListFormat {
 }
 
 /// What is in a form.
-pub(crate) fn either<'a>(format: ListFormat, text: &'a [u8], json: &'a [u8]) -> &'a [u8]
-    ensures { result.now ≡ forms.either format text.now json.now }
+pub(crate) fn text_or_json<'a>(format: ListFormat, text: &'a [u8], json: &'a [u8]) -> &'a [u8]
+    ensures { result.now ≡ forms.text_or_json format text.now json.now }
 {
     match format {
         ListFormat::Text => text,
@@ -26,19 +26,19 @@ pub(crate) fn either<'a>(format: ListFormat, text: &'a [u8], json: &'a [u8]) -> 
 }
 
 /// Writes what is in a form.
-pub(crate) fn put_either<K: Sink>(
+pub(crate) fn put_text_or_json<K: Sink>(
     format: ListFormat,
     text: &[u8],
     json: &[u8],
     k: &mut K,
 ) -> Result<(), StoreFault>
     ensures whole { OnOk result
-        (Adds (K.taken k.old) (K.taken k.new) (forms.either format text.now json.now)) }
+        (Adds (K.taken k.old) (K.taken k.new) (forms.text_or_json format text.now json.now)) }
     ensures part { OnErr result
-        (AddsPart (K.taken k.old) (K.taken k.new) (forms.either format text.now json.now)) }
+        (AddsPart (K.taken k.old) (K.taken k.new) (forms.text_or_json format text.now json.now)) }
     ensures cause { HasCause (K.faults k.old) (K.faults k.new) result StoreFault.Failed }
 {
-    k.write(either(format, text, json))
+    k.write(text_or_json(format, text, json))
 }
 
 /// Writes a field that is a number.
@@ -55,7 +55,7 @@ pub(crate) fn put_count<K: Sink>(
         (AddsPart (K.taken k.old) (K.taken k.new) (forms.counted format text.now json.now count)) }
     ensures cause { HasCause (K.faults k.old) (K.faults k.new) result StoreFault.Failed }
 {
-    put_either(format, text, json, k)?;
+    put_text_or_json(format, text, json, k)?;
     put_decimal(count, k)?;
     Ok(())
 }

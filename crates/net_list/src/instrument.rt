@@ -9,7 +9,7 @@ ghost use Rattle.net_list.specs.Lines as lines;
 ghost use Rattle.net_list.specs.Listing.{lines_from};
 
 use crate::drivers::put_drivers;
-use crate::format::{ListFormat, either, put_count, put_either};
+use crate::format::{ListFormat, put_count, put_text_or_json, text_or_json};
 use ij_io::{Sink, StoreFault};
 use net_graph::{Net, PortIn, PortOut};
 use path_names::{put_instance_path, put_name};
@@ -32,12 +32,12 @@ fn put_input<K: Sink>(
 {
     let bits = port.bits.as_slice();
     k.write(before)?;
-    put_either(format, b"in ", b"{\"port\":\"", k)?;
+    put_text_or_json(format, b"in ", b"{\"port\":\"", k)?;
     put_name(&port.name, k)?;
     put_count(format, b" ", b"\",\"bits\":", bits.len() as u64, k)?;
-    put_either(format, b" from ", b",\"from\":\"", k)?;
+    put_text_or_json(format, b" from ", b",\"from\":\"", k)?;
     put_drivers(net, bits, k)?;
-    put_either(format, b"", b"\"}", k)?;
+    put_text_or_json(format, b"", b"\"}", k)?;
     Ok(())
 }
 
@@ -80,10 +80,10 @@ fn put_output<K: Sink>(
     ensures cause { HasCause (K.faults k.old) (K.faults k.new) result StoreFault.Failed }
 {
     k.write(before)?;
-    put_either(format, b"out ", b"{\"port\":\"", k)?;
+    put_text_or_json(format, b"out ", b"{\"port\":\"", k)?;
     put_name(&port.name, k)?;
     put_count(format, b" ", b"\",\"bits\":", port.width as u64, k)?;
-    put_either(format, b"", b"}", k)?;
+    put_text_or_json(format, b"", b"}", k)?;
     Ok(())
 }
 
@@ -125,13 +125,13 @@ fn put_port_lists<K: Sink>(
         (AddsPart (K.taken k.old) (K.taken k.new) (lines.port_lists format net.now ins.now outs.now)) }
     ensures cause { HasCause (K.faults k.old) (K.faults k.new) result StoreFault.Failed }
 {
-    let between = either(format, b" ", b",");
-    let first = either(format, b" ", b"");
-    put_either(format, b"", b",\"in\":[", k)?;
+    let between = text_or_json(format, b" ", b",");
+    let first = text_or_json(format, b" ", b"");
+    put_text_or_json(format, b"", b",\"in\":[", k)?;
     put_inputs(format, between, first, net, ins, k)?;
-    put_either(format, b"", b"],\"out\":[", k)?;
+    put_text_or_json(format, b"", b"],\"out\":[", k)?;
     put_outputs(format, between, first, outs, k)?;
-    put_either(format, b"", b"]", k)?;
+    put_text_or_json(format, b"", b"]", k)?;
     Ok(())
 }
 
@@ -186,11 +186,11 @@ fn put_instrument<K: Sink>(
         (AddsPart (K.taken k.old) (K.taken k.new) (lines.instrument_line format net.now inst)) }
     ensures cause { HasCause (K.faults k.old) (K.faults k.new) result StoreFault.Failed }
 {
-    put_either(format, b"instrument ", b"{\"instrument\":\"", k)?;
+    put_text_or_json(format, b"instrument ", b"{\"instrument\":\"", k)?;
     put_path(net, inst, k)?;
-    put_either(format, b"", b"\"", k)?;
+    put_text_or_json(format, b"", b"\"", k)?;
     put_ports(format, net, inst, k)?;
-    put_either(format, b"\n", b"}\n", k)?;
+    put_text_or_json(format, b"\n", b"}\n", k)?;
     Ok(())
 }
 

@@ -20,7 +20,7 @@ pub use format::ListFormat;
 pub use mux::{mux_count, put_rows, put_selects};
 pub use names::{index_of, put_bit_name, put_register_path};
 pub use outputs::{output_index, put_output};
-pub use register::{put_reset, put_selected, put_width, selected_by};
+pub use register::{muxes_selected_by, put_reset, put_selected, put_width};
 pub use values::put_values;
 pub use whole::put_list;
 

@@ -9,7 +9,7 @@ ghost use Rattle.net_list.specs.Forms as forms;
 ghost use Rattle.net_list.specs.Lines as lines;
 ghost use Rattle.net_list.specs.Listing.{lines_from};
 
-use crate::format::{ListFormat, either, put_count, put_either};
+use crate::format::{ListFormat, put_count, put_text_or_json, text_or_json};
 use crate::names::put_bit_name;
 use crate::values::put_values;
 use ij_io::{Sink, StoreFault};
@@ -34,9 +34,9 @@ fn put_bit<K: Sink>(
     ensures cause { HasCause (K.faults k.old) (K.faults k.new) result StoreFault.Failed }
 {
     k.write(before)?;
-    put_either(format, b"", b"\"", k)?;
+    put_text_or_json(format, b"", b"\"", k)?;
     put_bit_name(net, bit, k)?;
-    put_either(format, b"", b"\"", k)?;
+    put_text_or_json(format, b"", b"\"", k)?;
     Ok(())
 }
 
@@ -63,7 +63,7 @@ fn put_select_bits<K: Sink>(
         (lines.select_bits format net.now [] bits.now (length bits.now))) }
     ensures cause { HasCause (K.faults k.old) (K.faults k.new) result StoreFault.Failed }
 {
-    let between = either(format, b" ", b",");
+    let between = text_or_json(format, b" ", b",");
     let mut before: &[u8] = b"";
     for j in 0..bits.len() {
         put_bit(format, before, net, from_left(bits, j), k)?;
@@ -116,9 +116,9 @@ fn put_row_name<K: Sink>(
     requires well_formed { IsNet net.now }
     requires there { mux < length net.now.muxes.items }
     ensures whole { OnOk result
-        (Adds (K.taken k.old) (K.taken k.new) (forms.either format (mux_path net.now mux ++ codes "=") [])) }
+        (Adds (K.taken k.old) (K.taken k.new) (forms.text_or_json format (mux_path net.now mux ++ codes "=") [])) }
     ensures part { OnErr result (AddsPart (K.taken k.old) (K.taken k.new)
-        (forms.either format (mux_path net.now mux ++ codes "=") [])) }
+        (forms.text_or_json format (mux_path net.now mux ++ codes "=") [])) }
     ensures cause { HasCause (K.faults k.old) (K.faults k.new) result StoreFault.Failed }
 {
     match format {
@@ -146,10 +146,10 @@ fn put_row<K: Sink>(
 {
     let values = row.values.as_slice();
     k.write(before)?;
-    put_either(format, b"row ", b"\"", k)?;
+    put_text_or_json(format, b"row ", b"\"", k)?;
     put_row_name(format, net, mux, k)?;
     put_values(values, k)?;
-    put_either(format, b"\n", b"\"", k)?;
+    put_text_or_json(format, b"\n", b"\"", k)?;
     Ok(())
 }
 
@@ -194,7 +194,7 @@ pub fn put_rows<K: Sink>(
     ensures cause { HasCause (K.faults k.old) (K.faults k.new) result StoreFault.Failed }
 {
     let rows = net.muxes.get(mux as usize).rows.as_slice();
-    put_row_list(format, either(format, b"", b","), net, mux, rows, k)
+    put_row_list(format, text_or_json(format, b"", b","), net, mux, rows, k)
 }
 
 /// Writes how many rows a mux has.
@@ -216,7 +216,7 @@ fn put_row_count<K: Sink>(
 }
 
 /// Writes the line of a mux that is in this many rows.
-fn put_text<K: Sink>(
+fn put_mux_line<K: Sink>(
     format: ListFormat,
     net: &Net,
     mux: u32,
@@ -231,15 +231,15 @@ fn put_text<K: Sink>(
         (AddsPart (K.taken k.old) (K.taken k.new) (lines.mux_text format net.now mux depth)) }
     ensures cause { HasCause (K.faults k.old) (K.faults k.new) result StoreFault.Failed }
 {
-    put_either(format, b"mux ", b"{\"mux\":\"", k)?;
+    put_text_or_json(format, b"mux ", b"{\"mux\":\"", k)?;
     put_mux_path(net, mux, k)?;
     put_row_count(format, net, mux, k)?;
-    put_either(format, b" select ", b",\"select\":[", k)?;
+    put_text_or_json(format, b" select ", b",\"select\":[", k)?;
     put_selects(format, net, mux, k)?;
     put_count(format, b" depth ", b"],\"depth\":", depth as u64, k)?;
-    put_either(format, b"\n", b",\"values\":[", k)?;
+    put_text_or_json(format, b"\n", b",\"values\":[", k)?;
     put_rows(format, net, mux, k)?;
-    put_either(format, b"", b"]}\n", k)?;
+    put_text_or_json(format, b"", b"]}\n", k)?;
     Ok(())
 }
 
@@ -260,7 +260,7 @@ fn put_mux<K: Sink>(
     ensures cause { HasCause (K.faults k.old) (K.faults k.new) result StoreFault.Failed }
 {
     let depth = tree.place_of_mux(mux).len();
-    put_text(format, net, mux, depth, k)
+    put_mux_line(format, net, mux, depth, k)
 }
 
 /// How many muxes there are. Takes no memory.

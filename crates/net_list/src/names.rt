@@ -8,7 +8,7 @@ ghost use Rattle.net_graph.specs.PathNames.{mux_path};
 ghost use Rattle.net_list.specs.Drivers as drivers;
 ghost use Rattle.net_list.specs.Lines.{quoted};
 
-use crate::format::{ListFormat, put_either};
+use crate::format::{ListFormat, put_text_or_json};
 use ij_io::{Sink, StoreFault, put_decimal};
 use net_graph::{BitId, Net};
 use path_names::{put_mux_path, put_thing_path};
@@ -119,8 +119,8 @@ pub(crate) fn put_mux_name<K: Sink>(
     ensures cause { HasCause (K.faults k.old) (K.faults k.new) result StoreFault.Failed }
 {
     k.write(before)?;
-    put_either(format, b"", b"\"", k)?;
+    put_text_or_json(format, b"", b"\"", k)?;
     put_mux_path(net, mux, k)?;
-    put_either(format, b"", b"\"", k)?;
+    put_text_or_json(format, b"", b"\"", k)?;
     Ok(())
 }

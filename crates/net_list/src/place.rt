@@ -8,7 +8,7 @@ ghost use Rattle.path_planner.specs.Settling.{values_of};
 ghost use Rattle.net_list.specs.Forms as forms;
 ghost use Rattle.net_list.specs.Lines as lines;
 
-use crate::format::{ListFormat, either, put_either};
+use crate::format::{ListFormat, put_text_or_json, text_or_json};
 use crate::values::put_values;
 use ij_bits::Tern;
 use ij_io::{Sink, StoreFault};
@@ -51,11 +51,11 @@ fn put_row<K: Sink>(
         (AddsPart (K.taken k.old) (K.taken k.new) (lines.branch_text format net.now branch)) }
     ensures cause { HasCause (K.faults k.old) (K.faults k.new) result StoreFault.Failed }
 {
-    put_either(format, b"", b"[\"", k)?;
+    put_text_or_json(format, b"", b"[\"", k)?;
     put_mux_path(net, branch.mux, k)?;
-    put_either(format, b"=", b"\",\"", k)?;
+    put_text_or_json(format, b"=", b"\",\"", k)?;
     put_row_values(net, branch, k)?;
-    put_either(format, b"", b"\"]", k)?;
+    put_text_or_json(format, b"", b"\"]", k)?;
     Ok(())
 }
 
@@ -120,10 +120,10 @@ pub(crate) fn put_place<K: Sink>(
         (AddsPart (K.taken k.old) (K.taken k.new) (lines.place_text format net.now place.now)) }
     ensures cause { HasCause (K.faults k.old) (K.faults k.new) result StoreFault.Failed }
 {
-    let between = either(format, b" ", b",");
-    let first = either(format, b" in ", b"");
-    put_either(format, b"", b",\"in\":[", k)?;
+    let between = text_or_json(format, b" ", b",");
+    let first = text_or_json(format, b" in ", b"");
+    put_text_or_json(format, b"", b",\"in\":[", k)?;
     put_rows(format, between, first, net, place, k)?;
-    put_either(format, b"", b"]", k)?;
+    put_text_or_json(format, b"", b"]", k)?;
     Ok(())
 }

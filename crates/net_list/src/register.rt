@@ -16,7 +16,7 @@ ghost use Rattle.net_list.specs.Lines as lines;
 ghost use Rattle.net_list.specs.Listing.{lines_from};
 
 use crate::fewest::fewest_scans;
-use crate::format::{ListFormat, either, put_count, put_either};
+use crate::format::{ListFormat, put_count, put_text_or_json, text_or_json};
 use crate::names::{put_mux_name, put_register_path};
 use crate::place::put_place;
 use crate::values::put_digits;
@@ -47,7 +47,7 @@ fn selects_in(net: &Net, reg: u32, mux: u32) -> bool
 }
 
 /// Adds a mux that is selected.
-fn push_if(muxes: &mut List<u32>, mux: u32, selected: bool) -> Result<(), OutOfMemory>
+fn push_if_selected(muxes: &mut List<u32>, mux: u32, selected: bool) -> Result<(), OutOfMemory>
     ensures { OnOk result (muxes.new.items ≡ muxes.old.items ++ cond selected (mux ∷ []) []) }
 {
     if selected {
@@ -57,14 +57,14 @@ fn push_if(muxes: &mut List<u32>, mux: u32, selected: bool) -> Result<(), OutOfM
 }
 
 /// The muxes in which a register selects, in the network's order (IEEE 1687-2014, ICL: `SelectedBy`).
-pub fn selected_by(alloc: Global, net: &Net, reg: u32) -> Result<List<u32>, OutOfMemory>
+pub fn muxes_selected_by(alloc: Global, net: &Net, reg: u32) -> Result<List<u32>, OutOfMemory>
     requires { IsNet net.now }
-    ensures muxes { IfOk result (λ muxes. muxes.items ≡ lines.selected_by net.now reg) }
+    ensures muxes { IfOk result (λ muxes. muxes.items ≡ lines.muxes_selected_by net.now reg) }
     ensures there { IfOk result (λ muxes. All (λ m. m < length net.now.muxes.items) muxes.items) }
 {
     let mut muxes = List::new(alloc);
     for mux in 0..net.muxes.len() {
-        push_if(&mut muxes, mux as u32, selects_in(net, reg, mux as u32))?;
+        push_if_selected(&mut muxes, mux as u32, selects_in(net, reg, mux as u32))?;
     }
     Ok(muxes)
 }
@@ -105,18 +105,18 @@ pub fn put_selected<K: Sink>(
 ) -> Result<(), StoreFault>
     requires well_formed { IsNet net.now }
     requires there { All (λ m. m < length net.now.muxes.items) muxes.now }
-    requires muxes { muxes.now ≡ lines.selected_by net.now reg }
+    requires muxes { muxes.now ≡ lines.muxes_selected_by net.now reg }
     ensures whole { OnOk result
         (Adds (K.taken k.old) (K.taken k.new) (lines.selects_text format net.now reg)) }
     ensures part { OnErr result
         (AddsPart (K.taken k.old) (K.taken k.new) (lines.selects_text format net.now reg)) }
     ensures cause { HasCause (K.faults k.old) (K.faults k.new) result StoreFault.Failed }
 {
-    let between = either(format, b" ", b",");
-    let first = either(format, b" selects ", b"");
-    put_either(format, b"", b",\"selects\":[", k)?;
+    let between = text_or_json(format, b" ", b",");
+    let first = text_or_json(format, b" selects ", b"");
+    put_text_or_json(format, b"", b",\"selects\":[", k)?;
     put_muxes(format, between, first, net, muxes, k)?;
-    put_either(format, b"", b"]", k)?;
+    put_text_or_json(format, b"", b"]", k)?;
     Ok(())
 }
 
@@ -151,7 +151,7 @@ pub fn put_reset<K: Sink>(net: &Net, reg: u32, k: &mut K) -> Result<(), StoreFau
 
 /// Writes the line of a register that is in these rows, selects in these muxes and is reached in this many
 /// scans.
-fn put_text<K: Sink>(
+fn put_register_line<K: Sink>(
     format: ListFormat,
     net: &Net,
     reg: u32,
@@ -164,7 +164,7 @@ fn put_text<K: Sink>(
     requires there { reg < length net.now.regs.items }
     requires rows { All (IsBranchOf net.now) place.now }
     requires listed { All (λ m. m < length net.now.muxes.items) muxes.now }
-    requires muxes { muxes.now ≡ lines.selected_by net.now reg }
+    requires muxes { muxes.now ≡ lines.muxes_selected_by net.now reg }
     ensures whole { OnOk result
         (Adds (K.taken k.old) (K.taken k.new) (lines.register_text format net.now reg place.now scans)) }
     ensures part { OnErr result
@@ -172,16 +172,16 @@ fn put_text<K: Sink>(
     ensures cause { HasCause (K.faults k.old) (K.faults k.new) result StoreFault.Failed }
 {
     let depth = place.len() as u64;
-    put_either(format, b"register ", b"{\"register\":\"", k)?;
+    put_text_or_json(format, b"register ", b"{\"register\":\"", k)?;
     put_register_path(net, reg, k)?;
     put_width(format, net, reg, k)?;
-    put_either(format, b" reset ", b",\"reset\":\"", k)?;
+    put_text_or_json(format, b" reset ", b",\"reset\":\"", k)?;
     put_reset(net, reg, k)?;
     put_count(format, b" depth ", b"\",\"depth\":", depth, k)?;
     put_count(format, b" scans ", b",\"scans\":", scans as u64, k)?;
     put_place(format, net, place, k)?;
     put_selected(format, net, reg, muxes, k)?;
-    put_either(format, b"\n", b"}\n", k)?;
+    put_text_or_json(format, b"\n", b"}\n", k)?;
     Ok(())
 }
 
@@ -208,8 +208,8 @@ fn put_register<K: Sink>(
 {
     let place = tree.place_of(reg);
     let scans = fewest_scans(alloc, net, tree, start, reg, place.as_slice())?;
-    let muxes = selected_by(alloc, net, reg)?;
-    put_text(
+    let muxes = muxes_selected_by(alloc, net, reg)?;
+    put_register_line(
         format,
         net,
         reg,

@@ -6,7 +6,7 @@ ghost use Rattle.net_graph.specs.Chain.{chain, IsRoute};
 ghost use Rattle.net_graph.specs.Nets.{IsNet};
 ghost use Rattle.net_list.specs.Listing as listing;
 
-use crate::format::{ListFormat, put_count, put_either};
+use crate::format::{ListFormat, put_count, put_text_or_json};
 use crate::instrument::inst_count;
 use crate::mux::mux_count;
 use ij_bits::{Buffer, OutOfMemory};
@@ -85,7 +85,7 @@ fn put_line<K: Sink>(
         k,
     )?;
     put_count(format, b" path at reset ", b",\"path\":", path as u64, k)?;
-    put_either(format, b"\n", b"}}\n", k)?;
+    put_text_or_json(format, b"\n", b"}}\n", k)?;
     Ok(())
 }
 

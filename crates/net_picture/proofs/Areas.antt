@@ -11,8 +11,9 @@ use Rattle.net_picture.specs.declared.shape.Shape.TheVariants.{Wire}
 use Rattle.net_picture.specs.Apart.{Area, area_of, areas_in, SharesNone, AreApart, IsWithin}
 use Rattle.net_picture.specs.Drawing.{first_pen, drawing_by, shapes_of}
 use Rattle.net_picture.specs.Layout.{drawn, pen_after, fan_after, rows_drawn, register_drawn, mux_drawn}
-use Rattle.net_picture.specs.Layout.{pen_past, row_wire, is_row}
-use Rattle.net_picture.specs.Pens.{start_at, is_full, next_line, ready, moved, after_register, after_row}
+use Rattle.net_picture.specs.Layout.{pen_past, row_wire, is_selected_row}
+use Rattle.net_picture.specs.Pens.{start_at, is_full, next_line, next_wire_start, moved, after_register}
+use Rattle.net_picture.specs.Pens.{after_row}
 use Rattle.net_picture.specs.Pens.{fan_at, funnel_at, after_mux}
 use Rattle.net_picture.specs.Plan.{Plan, box_of, mux_of}
 use Rattle.net_picture.proofs.Gathering.{IsOfThings, box_shape, funnel_shape, picked_register, picked_mux}
@@ -158,7 +159,7 @@ fits_then p q r xs bs a b = record {
 }
 
 -- the next line
-ready_fits : (p : Pen) → IsPen p → Fits p (ready p) []
+ready_fits : (p : Pen) → IsPen p → Fits p (next_wire_start p) []
 ready_fits p h = elim (is_full p) as (λ (b : Bool). Fits p (cond b (next_line p) p) []) [
   | true ↦ record {
     goes = record {
@@ -352,7 +353,7 @@ module _ (plan : Plan) where
         → Fits p (pen_after plan p items) (areas_in (drawn plan active p items))
     items_fit active p Nothing h = fits_none p h
     items_fit active p (RegThen r rest) h =
-        let here : Pen = ready p in
+        let here : Pen = next_wire_start p in
         let first = ready_fits p h in
         let width : ℕ = box_of plan r in
         let q : Pen = after_register here width in
@@ -364,7 +365,7 @@ module _ (plan : Plan) where
         box others (picked_register area_of areas_of_things active p r width) refl))
         (fits_then p q (pen_after plan q rest) box others mine (items_fit active q rest mine.pen))
     items_fit active p (MuxThen m rows rest) h =
-        let here : Pen = ready p in
+        let here : Pen = next_wire_start p in
         let first = ready_fits p h in
         let part : MuxPlan = mux_of plan m in
         let f : Fan = fan_at here in
@@ -384,7 +385,7 @@ module _ (plan : Plan) where
         → RowsFit f (fan_after plan f rows) (areas_in (rows_drawn plan active row from q f rows))
     rows_fit active row from q f NoRow h = rows_none f h
     rows_fit active row from q f (RowThen items rest) h =
-        let on : Bool = active && is_row row q in
+        let on : Bool = active && is_selected_row row q in
         let start : Pen = start_at f.x f.y in
         let p : Pen = pen_after plan start items in
         let next : Fan = after_row f p in

@@ -28,9 +28,9 @@ use Rattle.net_tree.proofs.Walks.{IsRoute-front, IsRoute-back}
 use Rattle.net_picture.specs.declared.pen.Pen.{Pen}
 use Rattle.net_picture.specs.declared.pen.Fan.{Fan}
 use Rattle.net_picture.specs.Layout.{drawn, pen_after, rows_drawn, register_drawn, mux_drawn, pen_past}
-use Rattle.net_picture.specs.Layout.{row_wire, is_row}
-use Rattle.net_picture.specs.Met.{is_met, met, trace_back, met_from, register_at}
-use Rattle.net_picture.specs.Pens.{start_at, ready, after_register, after_row, fan_at}
+use Rattle.net_picture.specs.Layout.{row_wire, is_selected_row}
+use Rattle.net_picture.specs.Met.{is_on_path, met, trace_back, met_from, register_at}
+use Rattle.net_picture.specs.Pens.{start_at, next_wire_start, after_register, after_row, fan_at}
 use Rattle.net_picture.specs.Plan.{Plan, box_of, has_path, mux_of, plan_of}
 use Rattle.net_picture.proofs.Gathering.{picked_register, picked_mux, picked_row, picked_both}
 use Rattle.net_picture.proofs.Marking.{point_of_shape, points_in, of_points, row_known, same_row, later_row}
@@ -166,15 +166,18 @@ module _ (net : Net) (holds : Holds) (plan : Plan) (known : (m : ℕ) → m < le
         let next : Fan = after_row g (pen_after plan start items) in
         let mine : List Point = points_in (drawn plan true start items) in
         let less : q < suc q = omega arith in
-        let is_on : is_row row q ≡ true = ap (λ (o : Option ℕ). is_row o q) r ∙ same_row q in
-        let first : points_in (row_wire (is_row row q) pen g ∷ drawn plan (is_row row q) start items) ≡ mine =
+        let is_on : is_selected_row row q ≡ true = ap (λ (o : Option ℕ). is_selected_row o q) r ∙ same_row q
+        in
+        let first : points_in (row_wire (is_selected_row row q) pen g ∷ drawn plan (is_selected_row row q)
+        start items) ≡ mine =
         ap (λ (k : Bool). points_in (row_wire k pen g ∷ drawn plan k start items)) is_on
         ∙ picked_row point_of_shape of_points true pen g (drawn plan true start items) in
         let others : points_in (rows_drawn plan true row pen (suc q) next rest) ≡ [] =
         ap (λ (o : Option ℕ). points_in (rows_drawn plan true o pen (suc q) next rest)) r
         ∙ off_after plan q pen (suc q) next rest less in
         let all : points_in (rows_drawn plan true row pen q g (RowThen items rest)) ≡ mine =
-        picked_both point_of_shape of_points (row_wire (is_row row q) pen g ∷ drawn plan (is_row row q) start
+        picked_both point_of_shape of_points (row_wire (is_selected_row row q) pen g ∷ drawn plan
+        (is_selected_row row q) start
         items) (rows_drawn plan true row pen (suc q) next rest) mine [] first others ∙ append-nil mine in
         ap (λ (x : Point). met_from net holds n (Some x)) f ∙ b.points start
         ∙ ap (λ (xs : List Point). reverse xs ++ met_from net holds b.moves (Some p)) (sym all);
@@ -187,7 +190,7 @@ module _ (net : Net) (holds : Holds) (plan : Plan) (known : (m : ℕ) → m < le
 
   -- one of the others is
   there : (row : Option ℕ) (items : Items) (rest : Rows) (p : Point) (q n : ℕ) (from : Point)
-      → is_row row q ≡ false → RowsBack row rest p (suc q) n from
+      → is_selected_row row q ≡ false → RowsBack row rest p (suc q) n from
       → RowsBack row (RowThen items rest) p q n from
   there row items rest p q n from off b = record {
     moves = b.moves;
@@ -198,8 +201,8 @@ module _ (net : Net) (holds : Holds) (plan : Plan) (known : (m : ℕ) → m < le
         let next : Fan = after_row g (pen_after plan start items) in
         let others : List Point = points_in (rows_drawn plan true row pen (suc q) next rest) in
         let all : points_in (rows_drawn plan true row pen q g (RowThen items rest)) ≡ others =
-        picked_both point_of_shape of_points (row_wire (is_row row q) pen g
-        ∷ drawn plan (is_row row q) start items) (rows_drawn plan true row pen (suc q) next rest)
+        picked_both point_of_shape of_points (row_wire (is_selected_row row q) pen g
+        ∷ drawn plan (is_selected_row row q) start items) (rows_drawn plan true row pen (suc q) next rest)
         [] others (unselected plan row pen q g items off) refl in
         b.points pen next
         ∙ ap (λ (xs : List Point). reverse xs ++ met_from net holds b.moves (Some p)) (sym all);
@@ -234,7 +237,7 @@ module _ (net : Net) (holds : Holds) (plan : Plan) (known : (m : ℕ) → m < le
           met = s.met;
           traced = subst (λ (x : Point). trace net holds s.moves x ≡ Some s.met) w.0 s.traced;
           points = λ pen.
-              let q : Pen = after_register (ready pen) (box_of plan r) in
+              let q : Pen = after_register (next_wire_start pen) (box_of plan r) in
               let others : List Point = points_in (drawn plan true q rest) in
               let all : points_in (drawn plan true pen (RegThen r rest)) ≡ Reg r ∷ others =
               picked_both point_of_shape of_points (register_drawn true pen r (box_of plan r))
@@ -262,7 +265,8 @@ module _ (net : Net) (holds : Holds) (plan : Plan) (known : (m : ℕ) → m < le
           points = λ pen.
               let q : Pen = pen_past plan pen m rows in
               let within : List Point = points_in
-              (rows_drawn plan true (mux_of plan m).row (ready pen) 0 (fan_at (ready pen)) rows) in
+              (rows_drawn plan true (mux_of plan m).row (next_wire_start pen) 0 (fan_at (next_wire_start
+              pen)) rows) in
               let others : List Point = points_in (drawn plan true q rest) in
               let rest_met : List Point = met_from net holds c.moves (Some p) in
               let all : points_in (drawn plan true pen (MuxThen m rows rest))
@@ -274,7 +278,7 @@ module _ (net : Net) (holds : Holds) (plan : Plan) (known : (m : ℕ) → m < le
               ∙ ap (λ (k : ℕ). reverse others ++ met_from net holds k (Some (Mux m))) s.one_more
               ∙ ap (λ (o : Option Point). reverse others ++ (Mux m ∷ met_from net holds s.moves o)) s.is
               ∙ ap (λ (xs : List Point). reverse others ++ (Mux m ∷ xs))
-              (c.points (ready pen) (fan_at (ready pen)))
+              (c.points (next_wire_start pen) (fan_at (next_wire_start pen)))
               ∙ ap (λ (xs : List Point). reverse others ++ xs) (back_both within (Mux m ∷ []) rest_met)
               ∙ back_both (within ++ Mux m ∷ []) others rest_met
               ∙ ap (λ (xs : List Point). reverse xs ++ rest_met) (sym all);
@@ -337,6 +341,6 @@ any_register r (Mux m ∷ ps) = any_register r ps
 
 -- a register is met exactly where it is on the active path
 pub register_met : (net : Net) (holds : Holds) (r : ℕ)
-    → is_met (met net holds) (Reg r) ≡ is_in (route_of net holds) r
+    → is_on_path (met net holds) (Reg r) ≡ is_in (route_of net holds) r
 register_met net holds r = any_register r (met net holds)
     ∙ ap (λ (rs : List ℕ). is_in rs r) (met_is_path net holds)

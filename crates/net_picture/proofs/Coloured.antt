@@ -31,10 +31,11 @@ use Rattle.net_picture.specs.declared.shape.Shape.TheVariants.{Register, Mux, Va
 use Rattle.net_picture.specs.declared.shape.RowEnd.{RowEnd}
 use Rattle.net_picture.specs.Drawing.{first_pen, shapes_of, drawing_of}
 use Rattle.net_picture.specs.Layout.{drawn, pen_after, fan_after, row_ends, rows_drawn, mux_close, pen_past}
-use Rattle.net_picture.specs.Layout.{wire_to, row_wire, row_shown, row_close, row_closes, is_row}
+use Rattle.net_picture.specs.Layout.{wire_to, row_wire, row_shown, row_close, row_closes, is_selected_row}
 use Rattle.net_picture.specs.Marked.{active_boxes_in, funnel_colour, funnel_colours}
 use Rattle.net_picture.specs.Met.{trace_back, met_from, register_at, is_mux_met, is_row_met}
-use Rattle.net_picture.specs.Pens.{start_at, is_full, ready, after_register, after_row, fan_at, funnel_at}
+use Rattle.net_picture.specs.Pens.{start_at, is_full, next_wire_start, after_register, after_row, fan_at}
+use Rattle.net_picture.specs.Pens.{funnel_at}
 use Rattle.net_picture.specs.Plan.{Plan, box_of, has_path, mux_of, plan_of}
 use Rattle.net_picture.specs.Rows.{next_of, wire_into, row_colours}
 use Rattle.net_picture.specs.Whole.{funnels_in}
@@ -296,7 +297,8 @@ module _ (m q : ℕ) where
   wires_none : (active : Bool) (p : Pen) → colours (wire_to active p) ≡ []
   wires_none active p = elim (is_full p) as (λ (b : Bool). colours (cond b (Wire p.x p.y (p.x + 9) p.left
       (p.bottom + 4) active ∷ Wire p.left (p.bottom + 4) p.left p.left (p.bottom + 30) active ∷ []) []
-      ++ Wire (ready p).x (ready p).y (ready p).x ((ready p).x + 18) (ready p).y active ∷ []) ≡ []) [
+      ++ Wire (next_wire_start p).x (next_wire_start p).y (next_wire_start p).x ((next_wire_start p).x + 18)
+      (next_wire_start p).y active ∷ []) ≡ []) [
         | true ↦ refl
         | false ↦ refl
       ]
@@ -305,9 +307,11 @@ module _ (m q : ℕ) where
   opens_wires active p ys s =
       elim (is_full p) as (λ (b : Bool). wire_into m q s (next_of ((cond b (Wire p.x p.y (p.x + 9) p.left
       (p.bottom + 4) active ∷ Wire p.left (p.bottom + 4) p.left p.left (p.bottom + 30) active ∷ []) []
-      ++ Wire (ready p).x (ready p).y (ready p).x ((ready p).x + 18) (ready p).y active ∷ []) ++ ys)) ≡ []) [
+      ++ Wire (next_wire_start p).x (next_wire_start p).y (next_wire_start p).x ((next_wire_start p).x + 18)
+      (next_wire_start p).y active ∷ []) ++ ys)) ≡ []) [
         | true ↦ opens_wire p.x p.y (p.x + 9) p.left (p.bottom + 4) active s
-        | false ↦ opens_wire (ready p).x (ready p).y (ready p).x ((ready p).x + 18) (ready p).y active s
+        | false ↦ opens_wire (next_wire_start p).x (next_wire_start p).y (next_wire_start p).x
+            ((next_wire_start p).x + 18) (next_wire_start p).y active s
       ]
 
   -- ---- the wires to a funnel
@@ -340,17 +344,18 @@ module _ (m q : ℕ) where
   opens_closes : (active : Bool) (row : Option ℕ) (k p x y : ℕ) (es : List RowEnd)
       → Opens (row_closes active row k p x y es)
   opens_closes active row k p x y [] s = opens_none s
-  opens_closes active row k p x y (e ∷ es) s = opens_wire e.x e.y e.x x e.y (active && is_row row p) s
+  opens_closes active row k p x y (e ∷ es) s = opens_wire e.x e.y e.x x e.y (active && is_selected_row row
+      p) s
 
   -- of another multiplexer
   closes_other : (active : Bool) (row : Option ℕ) (k p x y : ℕ) (es : List RowEnd) → (k == m) ≡ false
       → colours (row_closes active row k p x y es) ≡ []
   closes_other active row k p x y [] other = refl
   closes_other active row k p x y (e ∷ es) other =
-      both (row_close (is_row row p) active k p x y e) (row_closes active row k (suc p) x y es) [] []
+      both (row_close (is_selected_row row p) active k p x y e) (row_closes active row k (suc p) x y es) [] []
       (opens_closes active row k (suc p) x y es)
-      (close_colours (is_row row p) active k p x y e
-      ∙ ap (λ (b : Bool). colour_if (b && (p == q)) (active && is_row row p)) other)
+      (close_colours (is_selected_row row p) active k p x y e
+      ∙ ap (λ (b : Bool). colour_if (b && (p == q)) (active && is_selected_row row p)) other)
       (closes_other active row k (suc p) x y es other)
 
   -- of later rows
@@ -360,29 +365,33 @@ module _ (m q : ℕ) where
   closes_later active row k p x y (e ∷ es) same less =
       let later : (p == q) ≡ false = ne_eqb p q (λ f. omega (arith, f, less)) in
       let more : q < suc p = omega (arith, less) in
-      both (row_close (is_row row p) active k p x y e) (row_closes active row k (suc p) x y es) [] []
+      both (row_close (is_selected_row row p) active k p x y e) (row_closes active row k (suc p) x y es) [] []
       (opens_closes active row k (suc p) x y es)
-      (close_colours (is_row row p) active k p x y e ∙ ap (λ (b : Bool). colour_if (b && (p == q))
-      (active && is_row row p)) same ∙ ap (λ (b : Bool). colour_if b (active && is_row row p)) later)
+      (close_colours (is_selected_row row p) active k p x y e ∙ ap (λ (b : Bool). colour_if (b && (p == q))
+      (active && is_selected_row row p)) same ∙ ap (λ (b : Bool). colour_if b (active && is_selected_row row
+      p)) later)
       (closes_later active row k (suc p) x y es same more)
 
   closes_one : (active : Bool) (row : Option ℕ) (k p x y : ℕ) (es : List RowEnd) → (k == m) ≡ true → p ≤ q
-      → q < p + length es → colours (row_closes active row k p x y es) ≡ (active && is_row row q) ∷ []
+      → q < p + length es → colours (row_closes active row k p x y es) ≡ (active && is_selected_row row q) ∷
+      []
   closes_one active row k p x y [] same low high = absurd (omega (arith, low, high))
   closes_one active row k p x y (e ∷ es) same low high =
-      let first : colours (row_close (is_row row p) active k p x y e)
-      ≡ colour_if (p == q) (active && is_row row p) =
-      close_colours (is_row row p) active k p x y e
-      ∙ ap (λ (b : Bool). colour_if (b && (p == q)) (active && is_row row p)) same in
+      let first : colours (row_close (is_selected_row row p) active k p x y e)
+      ≡ colour_if (p == q) (active && is_selected_row row p) =
+      close_colours (is_selected_row row p) active k p x y e
+      ∙ ap (λ (b : Bool). colour_if (b && (p == q)) (active && is_selected_row row p)) same in
       ⊎_elim
-      (λ is. both (row_close (is_row row p) active k p x y e) (row_closes active row k (suc p) x y es)
-      ((active && is_row row q) ∷ []) [] (opens_closes active row k (suc p) x y es)
-      (first ∙ ap (λ (b : Bool). colour_if b (active && is_row row p)) is.0
-      ∙ ap (λ (j : ℕ). (active && is_row row j) ∷ []) is.1)
+      (λ is. both (row_close (is_selected_row row p) active k p x y e) (row_closes active row k (suc p) x y
+      es)
+      ((active && is_selected_row row q) ∷ []) [] (opens_closes active row k (suc p) x y es)
+      (first ∙ ap (λ (b : Bool). colour_if b (active && is_selected_row row p)) is.0
+      ∙ ap (λ (j : ℕ). (active && is_selected_row row j) ∷ []) is.1)
       (closes_later active row k (suc p) x y es same (omega (arith, is.1))))
-      (λ differ. both (row_close (is_row row p) active k p x y e) (row_closes active row k (suc p) x y es) []
-      ((active && is_row row q) ∷ []) (opens_closes active row k (suc p) x y es)
-      (first ∙ ap (λ (b : Bool). colour_if b (active && is_row row p)) differ.0)
+      (λ differ. both (row_close (is_selected_row row p) active k p x y e) (row_closes active row k (suc p)
+      x y es) []
+      ((active && is_selected_row row q) ∷ []) (opens_closes active row k (suc p) x y es)
+      (first ∙ ap (λ (b : Bool). colour_if b (active && is_selected_row row p)) differ.0)
       (closes_one active row k (suc p) x y es same (omega (arith, low, differ.1)) (omega (arith, high))))
       (eqb_tells p q)
 
@@ -403,7 +412,7 @@ module _ (m q : ℕ) where
 
   module _ (net : Net) (plan : Plan) (there : q < length (rows_of net m)) where
     abbrev row_on : Bool → Bool
-    row_on on = on && is_row (mux_of plan m).row q
+    row_on on = on && is_selected_row (mux_of plan m).row q
 
     -- the colours of the row's wires follow from those of the funnels
     abbrev Follows : List Shape → Type 0
@@ -423,7 +432,8 @@ module _ (m q : ℕ) where
         let none : funnel_colours m (wire_to active p) ≡ [] =
         elim (is_full p) as (λ (b : Bool). funnel_colours m (cond b (Wire p.x p.y (p.x + 9) p.left
         (p.bottom + 4) active ∷ Wire p.left (p.bottom + 4) p.left p.left (p.bottom + 30) active ∷ []) []
-        ++ Wire (ready p).x (ready p).y (ready p).x ((ready p).x + 18) (ready p).y active ∷ []) ≡ []) [
+        ++ Wire (next_wire_start p).x (next_wire_start p).y (next_wire_start p).x ((next_wire_start p).x +
+        18) (next_wire_start p).y active ∷ []) ≡ []) [
           | true ↦ refl
           | false ↦ refl
         ] in
@@ -449,8 +459,9 @@ module _ (m q : ℕ) where
             → funnel_colours m (row_closes active row k p x y es) ≡ []
         closes_nothing active row k p x y [] = refl
         closes_nothing active row k p x y (e ∷ es) =
-            picked_both (funnel_colour m) of_funnels (row_close (is_row row p) active k p x y e)
-            (row_closes active row k (suc p) x y es) [] [] (shows_nothing (is_row row p) active x y e)
+            picked_both (funnel_colour m) of_funnels (row_close (is_selected_row row p) active k p x y e)
+            (row_closes active row k (suc p) x y es) [] [] (shows_nothing (is_selected_row row p) active x y
+            e)
             (closes_nothing active row k (suc p) x y es)
 
     close_follows : (active : Bool) (k : ℕ) (p : Pen) (g : Fan) (ends : List RowEnd)
@@ -461,9 +472,9 @@ module _ (m q : ℕ) where
         (λ same.
         let high : q < 0 + length ends =
         omega (arith, subst (λ (j : ℕ). q < length (rows_of net j)) (sym same.1) there, count) in
-        close_is active part k p g ends ((active && is_row part.row q) ∷ [])
+        close_is active part k p g ends ((active && is_selected_row part.row q) ∷ [])
         (closes_one active part.row k 0 (funnel_at g part.values) p.y ends same.0 (omega arith) high)
-        ∙ ap (λ (j : ℕ). (active && is_row (mux_of plan j).row q) ∷ []) same.1
+        ∙ ap (λ (j : ℕ). (active && is_selected_row (mux_of plan j).row q) ∷ []) same.1
         ∙ sym (ap (map row_on)
         (closed_funnels active part k p g ends ∙ ap (λ (b : Bool). colour_if b active) same.0)))
         (λ differ.
@@ -477,14 +488,17 @@ module _ (m q : ℕ) where
     opens_items active p Nothing s = opens_none s
     opens_items active p (RegThen r rest) s =
         ap (λ (shapes : List Shape). wire_into m q s (next_of shapes))
-        (append_assoc (wire_to active p) (Register r ((ready p).x + 18) (ready p).y (box_of plan r) active
-        ∷ []) (drawn plan active (after_register (ready p) (box_of plan r)) rest))
-        ∙ opens_wires active p (Register r ((ready p).x + 18) (ready p).y (box_of plan r) active
-        ∷ drawn plan active (after_register (ready p) (box_of plan r)) rest) s
+        (append_assoc (wire_to active p) (Register r ((next_wire_start p).x + 18) (next_wire_start p).y
+        (box_of plan r) active
+        ∷ []) (drawn plan active (after_register (next_wire_start p) (box_of plan r)) rest))
+        ∙ opens_wires active p (Register r ((next_wire_start p).x + 18) (next_wire_start p).y (box_of plan
+        r) active
+        ∷ drawn plan active (after_register (next_wire_start p) (box_of plan r)) rest) s
     opens_items active p (MuxThen k rows rest) s =
-        let g : Fan = fan_at (ready p) in
-        let inner : List Shape = rows_drawn plan active (mux_of plan k).row (ready p) 0 g rows
-        ++ mux_close active (mux_of plan k) k (ready p) (fan_after plan g rows) (row_ends plan g rows) in
+        let g : Fan = fan_at (next_wire_start p) in
+        let inner : List Shape = rows_drawn plan active (mux_of plan k).row (next_wire_start p) 0 g rows
+        ++ mux_close active (mux_of plan k) k (next_wire_start p) (fan_after plan g rows) (row_ends plan g
+        rows) in
         ap (λ (shapes : List Shape). wire_into m q s (next_of shapes))
         (append_assoc (wire_to active p) inner (drawn plan active (pen_past plan p k rows) rest))
         ∙ opens_wires active p (inner ++ drawn plan active (pen_past plan p k rows) rest) s
@@ -493,37 +507,39 @@ module _ (m q : ℕ) where
         → Opens ys → Opens (rows_drawn plan active row p n f rows ++ ys)
     opens_rows active row p n f NoRow ys opens s = opens s
     opens_rows active row p n f (RowThen items rest) ys opens s =
-        opens_wire (p.x + 18) p.y (p.x + 26) f.x f.y (active && is_row row n) s
+        opens_wire (p.x + 18) p.y (p.x + 26) f.x f.y (active && is_selected_row row n) s
 
     mutual
       follows : (active : Bool) (p : Pen) (items : Items) (source : Point)
           → IsWired net source items → Follows (drawn plan active p items)
       follows active p Nothing source w = refl
       follows active p (RegThen r rest) source w =
-          let next : Pen = after_register (ready p) (box_of plan r) in
-          let box : List Shape = Register r ((ready p).x + 18) (ready p).y (box_of plan r) active ∷ [] in
+          let next : Pen = after_register (next_wire_start p) (box_of plan r) in
+          let box : List Shape = Register r ((next_wire_start p).x + 18) (next_wire_start p).y (box_of plan
+          r) active ∷ [] in
           follows_both (wire_to active p ++ box) (drawn plan active next rest) (opens_items active next rest)
-          (follows_both (wire_to active p) box (opens_box r ((ready p).x + 18) (ready p).y
+          (follows_both (wire_to active p) box (opens_box r ((next_wire_start p).x + 18) (next_wire_start p).y
           (box_of plan r) active) (wires_follow active p) refl)
           (follows active next rest (RegAt r) w.1)
       follows active p (MuxThen k rows rest) source w =
-          let g : Fan = fan_at (ready p) in
+          let g : Fan = fan_at (next_wire_start p) in
           let next : Pen = pen_past plan p k rows in
           let ends : List RowEnd = row_ends plan g rows in
-          let inside : List Shape = rows_drawn plan active (mux_of plan k).row (ready p) 0 g rows in
+          let inside : List Shape = rows_drawn plan active (mux_of plan k).row (next_wire_start p) 0 g rows in
           let close : List Shape =
-          mux_close active (mux_of plan k) k (ready p) (fan_after plan g rows) ends in
+          mux_close active (mux_of plan k) k (next_wire_start p) (fan_after plan g rows) ends in
           let count : length (rows_of net k)
           ≡ length ends = same_count net source (rows_of net k) rows w.0 ∙ sym (ends_count plan g rows) in
           let opens_close : Opens close = opens_mux k (funnel_at (fan_after plan g rows)
-          (mux_of plan k).values) (ready p).y ((fan_after plan g rows).last - (ready p).y) active in
+          (mux_of plan k).values) (next_wire_start p).y ((fan_after plan g rows).last - (next_wire_start
+          p).y) active in
           follows_both (wire_to active p ++ (inside ++ close))
           (drawn plan active next rest) (opens_items active next rest)
           (follows_both (wire_to active p) (inside ++ close) (opens_rows active (mux_of plan k).row
-          (ready p) 0 g rows close opens_close) (wires_follow active p)
+          (next_wire_start p) 0 g rows close opens_close) (wires_follow active p)
           (follows_both inside close opens_close
-          (follow_rows active (mux_of plan k).row (ready p) 0 g rows source (rows_of net k) w.0)
-          (close_follows active k (ready p) (fan_after plan g rows) ends count)))
+          (follow_rows active (mux_of plan k).row (next_wire_start p) 0 g rows source (rows_of net k) w.0)
+          (close_follows active k (next_wire_start p) (fan_after plan g rows) ends count)))
           (follows active next rest (MuxAt k) w.1)
 
       follow_rows : (active : Bool) (row : Option ℕ) (p : Pen) (n : ℕ) (f : Fan) (rows : Rows)
@@ -534,7 +550,7 @@ module _ (m q : ℕ) where
       follow_rows active row p n f (RowThen items rest) source (r ∷ rs) w =
           let start : Pen = start_at f.x f.y in
           let next : Fan = after_row f (pen_after plan start items) in
-          let on : Bool = active && is_row row n in
+          let on : Bool = active && is_selected_row row n in
           let later : List Shape = rows_drawn plan active row p (suc n) next rest in
           follows_both (row_wire on p f ∷ drawn plan on start items) later
           (λ s. ap (λ (shapes : List Shape). wire_into m q s (next_of shapes)) (sym (append-nil later))
@@ -552,9 +568,10 @@ rows net form holds m q d less there =
     let p = pen_after plan first_pen form in
     let last : List Shape = Wire p.x p.y p.x (p.x + 18) p.y on ∷ [] in
     let follow : row_colours m q (drawing_of net holds form).shapes
-    ≡ map (λ (b : Bool). b && is_row (mux_of plan m).row q)
+    ≡ map (λ (b : Bool). b && is_selected_row (mux_of plan m).row q)
     (funnel_colours m (drawing_of net holds form).shapes) =
     follows_both m q net plan there (drawn plan on first_pen form) last (opens_wire m q p.x p.y p.x
     (p.x + 18) p.y on) (follows m q net plan there on first_pen form Entry d.wired) refl in
-    follow ∙ ap (map (λ (b : Bool). b && is_row (mux_of plan m).row q)) (funnels net form holds m d less)
-    ∙ ap (λ (o : Option ℕ). (is_mux_met net holds m && is_row o q) ∷ []) (row_known net holds m less)
+    follow ∙ ap (map (λ (b : Bool). b && is_selected_row (mux_of plan m).row q)) (funnels net form holds m d
+    less)
+    ∙ ap (λ (o : Option ℕ). (is_mux_met net holds m && is_selected_row o q) ∷ []) (row_known net holds m less)

@@ -12,13 +12,14 @@ use Rattle.net_picture.specs.declared.shape.Shape.{Shape}
 use Rattle.net_picture.specs.declared.shape.Shape.TheVariants.{Register, Mux, Values, Wire}
 use Rattle.net_picture.specs.declared.shape.RowEnd.{RowEnd}
 use Rattle.net_picture.specs.Layout.{fan_after, row_ends, rows_drawn, register_drawn, mux_drawn, mux_close}
-use Rattle.net_picture.specs.Layout.{turn_back, wire_to, row_wire, row_shown, row_close, row_closes, is_row}
-use Rattle.net_picture.specs.Pens.{is_full, ready, fan_at, funnel_at}
+use Rattle.net_picture.specs.Layout.{turn_back, wire_to, row_wire, row_shown, row_close, row_closes}
+use Rattle.net_picture.specs.Layout.{is_selected_row}
+use Rattle.net_picture.specs.Pens.{is_full, next_wire_start, fan_at, funnel_at}
 use Rattle.net_picture.specs.Plan.{Plan, mux_of}
 
 -- a register's box, and a multiplexer's funnel
 abbrev pub box_shape : Bool → Pen → ℕ → ℕ → Shape
-box_shape active p r width = Register r ((ready p).x + 18) (ready p).y width active
+box_shape active p r width = Register r ((next_wire_start p).x + 18) (next_wire_start p).y width active
 
 abbrev pub funnel_shape : Bool → MuxPlan → ℕ → Pen → Fan → Shape
 funnel_shape active part m p g = Mux m (funnel_at g part.values) p.y (g.last - p.y) active
@@ -51,10 +52,13 @@ module _ {T : Type 0} (f : Shape → List T) (k : IsOfThings f) where
 
   wires : (active : Bool) (p : Pen) → flat_map f (wire_to active p) ≡ []
   wires active p =
-      both (turn_back active p) (Wire (ready p).x (ready p).y (ready p).x ((ready p).x + 18)
-      (ready p).y active ∷ []) [] [] (turn active p)
-      (first (Wire (ready p).x (ready p).y (ready p).x ((ready p).x + 18) (ready p).y active) []
-      (k.wire (ready p).x (ready p).y (ready p).x ((ready p).x + 18) (ready p).y active))
+      both (turn_back active p) (Wire (next_wire_start p).x (next_wire_start p).y (next_wire_start p).x
+      ((next_wire_start p).x + 18)
+      (next_wire_start p).y active ∷ []) [] [] (turn active p)
+      (first (Wire (next_wire_start p).x (next_wire_start p).y (next_wire_start p).x ((next_wire_start p).x
+      + 18) (next_wire_start p).y active) []
+      (k.wire (next_wire_start p).x (next_wire_start p).y (next_wire_start p).x ((next_wire_start p).x + 18)
+      (next_wire_start p).y active))
 
   shown : (selected active : Bool) (x y : ℕ) (e : RowEnd) → flat_map f (row_shown selected active x y e) ≡ []
   shown true active x y e =
@@ -65,11 +69,12 @@ module _ {T : Type 0} (f : Shape → List T) (k : IsOfThings f) where
       → flat_map f (row_closes active row m q x y es) ≡ []
   closes active row m q x y [] = refl
   closes active row m q x y (e ∷ es) =
-      both (row_close (is_row row q) active m q x y e) (row_closes active row m (suc q) x y es) [] []
-      (first (Wire e.x e.y e.x x e.y (active && is_row row q)) (Values m q x e.y
-      ∷ row_shown (is_row row q) active x y e) (k.wire e.x e.y e.x x e.y (active && is_row row q))
-      ∙ first (Values m q x e.y) (row_shown (is_row row q) active x y e) (k.values m q x e.y)
-      ∙ shown (is_row row q) active x y e)
+      both (row_close (is_selected_row row q) active m q x y e) (row_closes active row m (suc q) x y es) [] []
+      (first (Wire e.x e.y e.x x e.y (active && is_selected_row row q)) (Values m q x e.y
+      ∷ row_shown (is_selected_row row q) active x y e) (k.wire e.x e.y e.x x e.y (active && is_selected_row
+      row q))
+      ∙ first (Values m q x e.y) (row_shown (is_selected_row row q) active x y e) (k.values m q x e.y)
+      ∙ shown (is_selected_row row q) active x y e)
       (closes active row m (suc q) x y es)
 
   closed : (active : Bool) (part : MuxPlan) (m : ℕ) (p : Pen) (g : Fan) (ends : List RowEnd)
@@ -95,18 +100,20 @@ module _ {T : Type 0} (f : Shape → List T) (k : IsOfThings f) where
   -- of a multiplexer, its rows and then its funnel
   pub picked_mux : (plan : Plan) (active : Bool) (p : Pen) (m : ℕ) (rows : Rows)
       → flat_map f (mux_drawn plan active p m rows)
-      ≡ flat_map f (rows_drawn plan active (mux_of plan m).row (ready p) 0 (fan_at (ready p)) rows)
-      ++ f (funnel_shape active (mux_of plan m) m (ready p) (fan_after plan (fan_at (ready p)) rows))
+      ≡ flat_map f (rows_drawn plan active (mux_of plan m).row (next_wire_start p) 0 (fan_at
+      (next_wire_start p)) rows)
+      ++ f (funnel_shape active (mux_of plan m) m (next_wire_start p) (fan_after plan (fan_at
+      (next_wire_start p)) rows))
   picked_mux plan active p m rows =
       let part : MuxPlan = mux_of plan m in
-      let g : Fan = fan_at (ready p) in
-      let inside : List Shape = rows_drawn plan active part.row (ready p) 0 g rows in
+      let g : Fan = fan_at (next_wire_start p) in
+      let inside : List Shape = rows_drawn plan active part.row (next_wire_start p) 0 g rows in
       let close : List Shape =
-      mux_close active part m (ready p) (fan_after plan g rows) (row_ends plan g rows) in
-      let funnel : List T = f (funnel_shape active part m (ready p) (fan_after plan g rows)) in
+      mux_close active part m (next_wire_start p) (fan_after plan g rows) (row_ends plan g rows) in
+      let funnel : List T = f (funnel_shape active part m (next_wire_start p) (fan_after plan g rows)) in
       both (wire_to active p) (inside ++ close) [] (flat_map f inside ++ funnel) (wires active p)
       (both inside close (flat_map f inside) funnel refl
-      (closed active part m (ready p) (fan_after plan g rows) (row_ends plan g rows)))
+      (closed active part m (next_wire_start p) (fan_after plan g rows) (row_ends plan g rows)))
 
   -- of a row, what is picked of its items
   pub picked_row : (active : Bool) (p : Pen) (g : Fan) (shapes : List Shape)

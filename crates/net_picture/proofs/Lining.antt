@@ -18,9 +18,10 @@ use Rattle.net_picture.specs.declared.shape.RowEnd.{RowEnd}
 use Rattle.net_picture.specs.Drawing.{first_pen, drawing_by, drawing_of, shapes_of}
 use Rattle.net_picture.specs.Layout.{drawn, pen_after, fan_after, row_ends, rows_drawn, register_drawn}
 use Rattle.net_picture.specs.Layout.{mux_drawn, mux_close, pen_past, turn_back, wire_to, row_wire, row_close}
-use Rattle.net_picture.specs.Layout.{row_closes, is_row}
+use Rattle.net_picture.specs.Layout.{row_closes, is_selected_row}
 use Rattle.net_picture.specs.Line.{Lead, lead_of, leads_in, IsLine}
-use Rattle.net_picture.specs.Pens.{start_at, is_full, next_line, ready, after_register, after_row, fan_at}
+use Rattle.net_picture.specs.Pens.{start_at, is_full, next_line, next_wire_start, after_register, after_row}
+use Rattle.net_picture.specs.Pens.{fan_at}
 use Rattle.net_picture.specs.Pens.{funnel_at}
 use Rattle.net_picture.specs.Plan.{Plan, box_of, mux_of, plan_of}
 use Rattle.net_picture.proofs.Back.{HasRows, RowHasRows, way, path_there, path_gone}
@@ -74,7 +75,8 @@ off_turn p = elim (is_full p) as (λ (b : Bool). leads_in (cond b (Wire p.x p.y 
 off_wires : (p : Pen) → leads_in (wire_to false p) ≡ []
 off_wires p =
     both_none (turn_back false p)
-    (Wire (ready p).x (ready p).y (ready p).x ((ready p).x + 18) (ready p).y false ∷ []) (off_turn p) refl
+    (Wire (next_wire_start p).x (next_wire_start p).y (next_wire_start p).x ((next_wire_start p).x + 18)
+    (next_wire_start p).y false ∷ []) (off_turn p) refl
 
 off_close : (selected : Bool) (m q x y : ℕ) (e : RowEnd) → leads_in (row_close selected false m q x y e) ≡ []
 off_close true m q x y e = refl
@@ -84,8 +86,8 @@ off_closes : (row : Option ℕ) (m q x y : ℕ) (es : List RowEnd)
     → leads_in (row_closes false row m q x y es) ≡ []
 off_closes row m q x y [] = refl
 off_closes row m q x y (e ∷ es) =
-    both_none (row_close (is_row row q) false m q x y e) (row_closes false row m (suc q) x y es)
-    (off_close (is_row row q) m q x y e) (off_closes row m (suc q) x y es)
+    both_none (row_close (is_selected_row row q) false m q x y e) (row_closes false row m (suc q) x y es)
+    (off_close (is_selected_row row q) m q x y e) (off_closes row m (suc q) x y es)
 
 off_mux : (part : MuxPlan) (m : ℕ) (p : Pen) (g : Fan) (ends : List RowEnd)
     → leads_in (mux_close false part m p g ends) ≡ []
@@ -99,21 +101,22 @@ module _ (plan : Plan) where
     off : (p : Pen) (items : Items) → leads_in (drawn plan false p items) ≡ []
     off p Nothing = refl
     off p (RegThen r rest) =
-        let q : Pen = after_register (ready p) (box_of plan r) in
+        let q : Pen = after_register (next_wire_start p) (box_of plan r) in
         both_none (register_drawn false p r (box_of plan r)) (drawn plan false q rest)
-        (both_none (wire_to false p) (Register r ((ready p).x + 18) (ready p).y (box_of plan r) false ∷ [])
+        (both_none (wire_to false p) (Register r ((next_wire_start p).x + 18) (next_wire_start p).y (box_of
+        plan r) false ∷ [])
         (off_wires p) refl) (off q rest)
     off p (MuxThen m rows rest) =
         let q : Pen = pen_past plan p m rows in
         let part : MuxPlan = mux_of plan m in
-        let f : Fan = fan_at (ready p) in
-        let inside : List Shape = rows_drawn plan false part.row (ready p) 0 f rows in
+        let f : Fan = fan_at (next_wire_start p) in
+        let inside : List Shape = rows_drawn plan false part.row (next_wire_start p) 0 f rows in
         let close : List Shape =
-        mux_close false part m (ready p) (fan_after plan f rows) (row_ends plan f rows) in
+        mux_close false part m (next_wire_start p) (fan_after plan f rows) (row_ends plan f rows) in
         both_none (mux_drawn plan false p m rows) (drawn plan false q rest)
         (both_none (wire_to false p) (inside ++ close) (off_wires p)
-        (both_none inside close (off_rows part.row (ready p) 0 f rows)
-        (off_mux part m (ready p) (fan_after plan f rows) (row_ends plan f rows))))
+        (both_none inside close (off_rows part.row (next_wire_start p) 0 f rows)
+        (off_mux part m (next_wire_start p) (fan_after plan f rows) (row_ends plan f rows))))
         (off q rest)
 
     off_rows : (row : Option ℕ) (p : Pen) (q : ℕ) (f : Fan) (rows : Rows)
@@ -139,7 +142,7 @@ module _ (plan : Plan) where
   off_after k p q f (RowThen items rest) less =
       let start : Pen = start_at f.x f.y in
       let next : Fan = after_row f (pen_after plan start items) in
-      let on : Bool = is_row (Some k) q in
+      let on : Bool = is_selected_row (Some k) q in
       let more : k < suc q = omega (arith, less) in
       both_none (row_wire on p f ∷ drawn plan on start items)
       (rows_drawn plan true (Some k) p (suc q) next rest)
@@ -156,12 +159,14 @@ closes_after : (k m q x y : ℕ) (es : List RowEnd) → k < q
 closes_after k m q x y [] less = refl
 closes_after k m q x y (e ∷ es) less =
     let more : k < suc q = omega (arith, less) in
-    both_none (row_close (is_row (Some k) q) true m q x y e) (row_closes true (Some k) m (suc q) x y es)
-    (close_off (is_row (Some k) q) m q x y e (other_row k q less)) (closes_after k m (suc q) x y es more)
+    both_none (row_close (is_selected_row (Some k) q) true m q x y e) (row_closes true (Some k) m (suc q) x
+    y es)
+    (close_off (is_selected_row (Some k) q) m q x y e (other_row k q less)) (closes_after k m (suc q) x y es
+    more)
 
 -- ---- one line
 
-turn_leads : (p : Pen) → Leads p.x p.y (turn_back true p) (ready p).x (ready p).y
+turn_leads : (p : Pen) → Leads p.x p.y (turn_back true p) (next_wire_start p).x (next_wire_start p).y
 turn_leads p = elim (is_full p) as (λ (b : Bool). Leads p.x p.y (cond b (Wire p.x p.y (p.x + 9) p.left
     (p.bottom + 4) true ∷ Wire p.left (p.bottom + 4) p.left p.left (p.bottom + 30) true ∷ []) [])
     (cond b (next_line p) p).x (cond b (next_line p) p).y) [
@@ -169,10 +174,12 @@ turn_leads p = elim (is_full p) as (λ (b : Bool). Leads p.x p.y (cond b (Wire p
       | false ↦ (refl, refl)
     ]
 
-wires_lead : (p : Pen) → Leads p.x p.y (wire_to true p) ((ready p).x + 18) (ready p).y
+wires_lead : (p : Pen) → Leads p.x p.y (wire_to true p) ((next_wire_start p).x + 18) (next_wire_start p).y
 wires_lead p =
-    leads_then p.x p.y (ready p).x (ready p).y ((ready p).x + 18) (ready p).y (turn_back true p)
-    (Wire (ready p).x (ready p).y (ready p).x ((ready p).x + 18) (ready p).y true ∷ [])
+    leads_then p.x p.y (next_wire_start p).x (next_wire_start p).y ((next_wire_start p).x + 18)
+    (next_wire_start p).y (turn_back true p)
+    (Wire (next_wire_start p).x (next_wire_start p).y (next_wire_start p).x ((next_wire_start p).x + 18)
+    (next_wire_start p).y true ∷ [])
     (turn_leads p) (refl, refl, (refl, refl))
 
 module _ (plan : Plan) where
@@ -187,7 +194,7 @@ module _ (plan : Plan) where
         → Leads p.x p.y (drawn plan true p items) (pen_after plan p items).x (pen_after plan p items).y
     items_lead p Nothing h = (refl, refl)
     items_lead p (RegThen r rest) h =
-        let here : Pen = ready p in
+        let here : Pen = next_wire_start p in
         let width : ℕ = box_of plan r in
         let q : Pen = after_register here width in
         let e : Pen = pen_after plan q rest in
@@ -196,7 +203,7 @@ module _ (plan : Plan) where
         (Register r (here.x + 18) here.y width true ∷ []) (wires_lead p) (refl, refl, (refl, refl)))
         (items_lead q rest h)
     items_lead p (MuxThen m rows rest) h =
-        let here : Pen = ready p in
+        let here : Pen = next_wire_start p in
         let part : MuxPlan = mux_of plan m in
         let f : Fan = fan_at here in
         let g : Fan = fan_after plan f rows in
@@ -238,7 +245,7 @@ module _ (plan : Plan) where
         let next : Fan = after_row f e in
         let spot : RowEnd = record { x = e.x; y = e.y } in
         let others : List Shape = rows_drawn plan true (Some k) p (suc q) next rest in
-        let on : Bool = is_row (Some k) q in
+        let on : Bool = is_selected_row (Some k) q in
         let first : List Shape = row_wire on p f ∷ drawn plan on start items in
         ⊎_elim
         (λ same.

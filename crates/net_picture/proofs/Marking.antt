@@ -21,10 +21,10 @@ use Rattle.net_picture.specs.declared.pen.Fan.{Fan}
 use Rattle.net_picture.specs.declared.shape.Shape.{Shape}
 use Rattle.net_picture.specs.declared.shape.Shape.TheVariants.{Register, Mux, Values, Wire}
 use Rattle.net_picture.specs.Layout.{drawn, pen_after, rows_drawn, register_drawn, mux_drawn, pen_past}
-use Rattle.net_picture.specs.Layout.{row_wire, is_row}
+use Rattle.net_picture.specs.Layout.{row_wire, is_selected_row}
 use Rattle.net_picture.specs.Marked.{active_box_of, active_boxes_in}
 use Rattle.net_picture.specs.Met.{register_at}
-use Rattle.net_picture.specs.Pens.{start_at, ready, after_register, after_row, fan_at}
+use Rattle.net_picture.specs.Pens.{start_at, next_wire_start, after_register, after_row, fan_at}
 use Rattle.net_picture.specs.Plan.{Plan, box_of, mux_of, mux_plan, plan_of}
 use Rattle.net_picture.proofs.Gathering.{IsOfThings, picked_register, picked_mux, picked_row, picked_both}
 
@@ -57,10 +57,10 @@ boxes_again (s ∷ ss) =
     ∙ ap (λ (rs : List ℕ). flat_map register_at (point_of_shape s) ++ rs) (boxes_again ss)
     ∙ sym (flat_map-append register_at (point_of_shape s) (points_in ss))
 
-pub same_row : (q : ℕ) → is_row (Some q) q ≡ true
+pub same_row : (q : ℕ) → is_selected_row (Some q) q ≡ true
 same_row q = ⊎_elim (λ same. same.0) (λ differ. absurd (differ.1 refl)) (eqb_tells q q)
 
-pub other_row : (k q : ℕ) → k < q → is_row (Some k) q ≡ false
+pub other_row : (k q : ℕ) → k < q → is_selected_row (Some k) q ≡ false
 other_row k q less = ne_eqb k q (λ e. omega (arith, less, e))
 
 least_of : (b : Bool) (k : ℕ) (rs : List Row) (bits : List Bool) (q : ℕ)
@@ -77,7 +77,7 @@ row_from_least k (r ∷ rs) bits q e =
     least_of (some_matches r.values.items bits) k rs bits q (λ h. row_from_least (suc k) rs bits q h) e
 
 pub later_row : (k : ℕ) (rs : List Row) (bits : List Bool) (o : Option ℕ)
-    → o ≡ row_from (suc k) rs bits → is_row o k ≡ false
+    → o ≡ row_from (suc k) rs bits → is_selected_row o k ≡ false
 later_row k rs bits None e = refl
 later_row k rs bits (Some q) e =
     let after : suc k ≤ q = row_from_least (suc k) rs bits q (sym e) in
@@ -89,15 +89,16 @@ module _ (plan : Plan) where
     pub off : (p : Pen) (items : Items) → points_in (drawn plan false p items) ≡ []
     off p Nothing = refl
     off p (RegThen r rest) =
-        let q : Pen = after_register (ready p) (box_of plan r) in
+        let q : Pen = after_register (next_wire_start p) (box_of plan r) in
         picked_both point_of_shape of_points (register_drawn false p r (box_of plan r)) (drawn plan false q
         rest) [] [] (picked_register point_of_shape of_points false p r (box_of plan r)) (off q rest)
     off p (MuxThen m rows rest) =
         let q : Pen = pen_past plan p m rows in
         picked_both point_of_shape of_points (mux_drawn plan false p m rows) (drawn plan false q rest) [] []
         (picked_mux point_of_shape of_points plan false p m rows ∙ append-nil
-        (points_in (rows_drawn plan false (mux_of plan m).row (ready p) 0 (fan_at (ready p)) rows))
-        ∙ off_rows (mux_of plan m).row (ready p) 0 (fan_at (ready p)) rows)
+        (points_in (rows_drawn plan false (mux_of plan m).row (next_wire_start p) 0 (fan_at (next_wire_start
+        p)) rows))
+        ∙ off_rows (mux_of plan m).row (next_wire_start p) 0 (fan_at (next_wire_start p)) rows)
         (off q rest)
 
     off_rows : (row : Option ℕ) (p : Pen) (q : ℕ) (f : Fan) (rows : Rows)
@@ -112,8 +113,10 @@ module _ (plan : Plan) where
         (off_rows row p (suc q) next rest)
 
   -- a row that isn't selected
-  pub unselected : (row : Option ℕ) (p : Pen) (q : ℕ) (f : Fan) (items : Items) → is_row row q ≡ false
-      → points_in (row_wire (is_row row q) p f ∷ drawn plan (is_row row q) (start_at f.x f.y) items) ≡ []
+  pub unselected : (row : Option ℕ) (p : Pen) (q : ℕ) (f : Fan) (items : Items) → is_selected_row row q ≡
+      false
+      → points_in (row_wire (is_selected_row row q) p f ∷ drawn plan (is_selected_row row q) (start_at f.x
+      f.y) items) ≡ []
   unselected row p q f items e =
       ap (λ (b : Bool). points_in (row_wire b p f ∷ drawn plan b (start_at f.x f.y) items)) e
       ∙ picked_row point_of_shape of_points false p f (drawn plan false (start_at f.x f.y) items)
@@ -126,7 +129,7 @@ module _ (plan : Plan) where
   off_after k p q f (RowThen items rest) less =
       let start : Pen = start_at f.x f.y in
       let next : Fan = after_row f (pen_after plan start items) in
-      let on : Bool = is_row (Some k) q in
+      let on : Bool = is_selected_row (Some k) q in
       let more : k < suc q = omega (arith, less) in
       picked_both point_of_shape of_points (row_wire on p f ∷ drawn plan on start items)
       (rows_drawn plan true (Some k) p (suc q) next rest) [] []

@@ -18,8 +18,9 @@ use Rattle.net_picture.specs.declared.shape.RowEnd.{RowEnd}
 use Rattle.net_picture.specs.Drawing.{Drawing, first_pen, shapes_of, drawing_by, drawing_of}
 use Rattle.net_picture.specs.Layout.{drawn, pen_after, fan_after, row_ends, rows_drawn, register_drawn}
 use Rattle.net_picture.specs.Layout.{mux_drawn, mux_close, pen_past, turn_back, wire_to, row_wire, row_shown}
-use Rattle.net_picture.specs.Layout.{row_close, row_closes, is_row}
-use Rattle.net_picture.specs.Pens.{start_at, is_full, ready, after_register, after_row, fan_at, funnel_at}
+use Rattle.net_picture.specs.Layout.{row_close, row_closes, is_selected_row}
+use Rattle.net_picture.specs.Pens.{start_at, is_full, next_wire_start, after_register, after_row, fan_at}
+use Rattle.net_picture.specs.Pens.{funnel_at}
 use Rattle.net_picture.specs.Plan.{Plan, box_of, mux_of, plan_of, has_path}
 use Rattle.net_picture.specs.There.{IsShapeOf}
 
@@ -42,9 +43,11 @@ module _ (net : Net) where
 
   wires : (active : Bool) (p : Pen) → All P (wire_to active p)
   wires active p =
-      All-append P (turn_back active p) (Wire (ready p).x (ready p).y (ready p).x ((ready p).x + 18)
-      (ready p).y active ∷ []) (turns active p)
-      (one_wire (ready p).x (ready p).y (ready p).x ((ready p).x + 18) (ready p).y active)
+      All-append P (turn_back active p) (Wire (next_wire_start p).x (next_wire_start p).y (next_wire_start
+      p).x ((next_wire_start p).x + 18)
+      (next_wire_start p).y active ∷ []) (turns active p)
+      (one_wire (next_wire_start p).x (next_wire_start p).y (next_wire_start p).x ((next_wire_start p).x +
+      18) (next_wire_start p).y active)
 
   shown : (selected active : Bool) (x y : ℕ) (e : RowEnd) → All P (row_shown selected active x y e)
   shown true active x y e = one_wire x e.y (x + 7) (x + 14) y active
@@ -54,11 +57,12 @@ module _ (net : Net) where
       → All P (row_closes active row m q x y es)
   closes active row m q x y [] there = All-nil P
   closes active row m q x y (e ∷ es) there =
-      All-append P (row_close (is_row row q) active m q x y e) (row_closes active row m (suc q) x y es)
-      (All-cons P (Wire e.x e.y e.x x e.y (active && is_row row q))
-      (Values m q x e.y ∷ row_shown (is_row row q) active x y e) tt
-      (All-cons P (Values m q x e.y) (row_shown (is_row row q) active x y e) there
-      (shown (is_row row q) active x y e)))
+      All-append P (row_close (is_selected_row row q) active m q x y e) (row_closes active row m (suc q) x y
+      es)
+      (All-cons P (Wire e.x e.y e.x x e.y (active && is_selected_row row q))
+      (Values m q x e.y ∷ row_shown (is_selected_row row q) active x y e) tt
+      (All-cons P (Values m q x e.y) (row_shown (is_selected_row row q) active x y e) there
+      (shown (is_selected_row row q) active x y e)))
       (closes active row m (suc q) x y es there)
 
   closed : (active : Bool) (part : MuxPlan) (m : ℕ) (p : Pen) (g : Fan) (ends : List RowEnd)
@@ -78,26 +82,27 @@ module _ (net : Net) where
           → IsRoute (length net.muxes.items) (muxes_in items) → All P (drawn plan active p items)
       items_there active p Nothing regs muxes = All-nil P
       items_there active p (RegThen r rest) regs muxes =
-          let q : Pen = after_register (ready p) (box_of plan r) in
-          let box : Shape = Register r ((ready p).x + 18) (ready p).y (box_of plan r) active in
+          let q : Pen = after_register (next_wire_start p) (box_of plan r) in
+          let box : Shape = Register r ((next_wire_start p).x + 18) (next_wire_start p).y (box_of plan r)
+          active in
           All-append P (register_drawn active p r (box_of plan r)) (drawn plan active q rest)
           (All-append P (wire_to active p) (box ∷ []) (wires active p) (All-cons P box [] regs.0 (All-nil P)))
           (items_there active q rest regs.2 muxes)
       items_there active p (MuxThen m rows rest) regs muxes =
           let q : Pen = pen_past plan p m rows in
           let part : MuxPlan = mux_of plan m in
-          let f : Fan = fan_at (ready p) in
-          let inside : List Shape = rows_drawn plan active part.row (ready p) 0 f rows in
+          let f : Fan = fan_at (next_wire_start p) in
+          let inside : List Shape = rows_drawn plan active part.row (next_wire_start p) 0 f rows in
           let close : List Shape =
-          mux_close active part m (ready p) (fan_after plan f rows) (row_ends plan f rows) in
+          mux_close active part m (next_wire_start p) (fan_after plan f rows) (row_ends plan f rows) in
           let rs = registers_in_rows rows in
           let ms = muxes_in_rows rows in
           All-append P (mux_drawn plan active p m rows) (drawn plan active q rest)
           (All-append P (wire_to active p) (inside ++ close) (wires active p)
           (All-append P inside close
-          (rows_there active part.row (ready p) 0 f rows (IsRoute-front (length net.regs.items) rs
+          (rows_there active part.row (next_wire_start p) 0 f rows (IsRoute-front (length net.regs.items) rs
           (registers_in rest) regs) (IsRoute-front (length net.muxes.items) ms (muxes_in rest) muxes.2))
-          (closed active part m (ready p) (fan_after plan f rows) (row_ends plan f rows) muxes.0)))
+          (closed active part m (next_wire_start p) (fan_after plan f rows) (row_ends plan f rows) muxes.0)))
           (items_there active q rest (IsRoute-back (length net.regs.items) rs (registers_in rest) regs)
           (IsRoute-back (length net.muxes.items) ms (muxes_in rest) muxes.2))
 
@@ -107,7 +112,7 @@ module _ (net : Net) where
           → All P (rows_drawn plan active row p q f rows)
       rows_there active row p q f NoRow regs muxes = All-nil P
       rows_there active row p q f (RowThen items rest) regs muxes =
-          let on : Bool = active && is_row row q in
+          let on : Bool = active && is_selected_row row q in
           let start : Pen = start_at f.x f.y in
           let next : Fan = after_row f (pen_after plan start items) in
           let rs = registers_in items in

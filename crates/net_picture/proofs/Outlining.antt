@@ -19,9 +19,10 @@ use Rattle.net_picture.specs.declared.shape.RowEnd.{RowEnd}
 use Rattle.net_picture.specs.Drawing.{first_pen, shapes_of, drawing_of}
 use Rattle.net_picture.specs.Layout.{drawn, pen_after, fan_after, row_ends, rows_drawn, register_drawn}
 use Rattle.net_picture.specs.Layout.{mux_drawn, mux_close, pen_past, turn_back, wire_to, row_wire, row_shown}
-use Rattle.net_picture.specs.Layout.{row_closes, is_row}
+use Rattle.net_picture.specs.Layout.{row_closes, is_selected_row}
 use Rattle.net_picture.specs.Outline.{bare, is_within, outline_after, outline}
-use Rattle.net_picture.specs.Pens.{start_at, is_full, ready, after_register, after_row, fan_at, funnel_at}
+use Rattle.net_picture.specs.Pens.{start_at, is_full, next_wire_start, after_register, after_row, fan_at}
+use Rattle.net_picture.specs.Pens.{funnel_at}
 use Rattle.net_picture.specs.Pens.{after_mux}
 use Rattle.net_picture.specs.Plan.{Plan, box_of, has_path, mux_of, mux_plan, plan_of}
 
@@ -80,9 +81,12 @@ turn_alike a b p =
 
 wires_alike : (a b : Bool) (p : Pen) → AreAlike (wire_to a p) (wire_to b p)
 wires_alike a b p =
-    alike_both (turn_back a p) (turn_back b p) (Wire (ready p).x (ready p).y (ready p).x ((ready p).x + 18)
-    (ready p).y a ∷ []) (Wire (ready p).x (ready p).y (ready p).x ((ready p).x + 18) (ready p).y b ∷ [])
-    (turn_alike a b p) (wire_alike (ready p).x (ready p).y (ready p).x ((ready p).x + 18) (ready p).y a b)
+    alike_both (turn_back a p) (turn_back b p) (Wire (next_wire_start p).x (next_wire_start p).y
+    (next_wire_start p).x ((next_wire_start p).x + 18)
+    (next_wire_start p).y a ∷ []) (Wire (next_wire_start p).x (next_wire_start p).y (next_wire_start p).x
+    ((next_wire_start p).x + 18) (next_wire_start p).y b ∷ [])
+    (turn_alike a b p) (wire_alike (next_wire_start p).x (next_wire_start p).y (next_wire_start p).x
+    ((next_wire_start p).x + 18) (next_wire_start p).y a b)
 
 -- ---- the wires to a funnel at x
 
@@ -137,8 +141,8 @@ closes_alike a b row row2 m q x y name [] before other h i us vs next =
     (Some (Wire (x + 14) y (x + 14) (x + 14 + name) y b)) (λ s. refl) (λ s. refl))
     ∙ sym (kept other (Wire (x + 14) y (x + 14) (x + 14 + name) y b) vs (i.output y (x + 14 + name) b))
 closes_alike a b row row2 m q x y name (e ∷ es) before other h i us vs next =
-    let s : Bool = is_row row q in
-    let t : Bool = is_row row2 q in
+    let s : Bool = is_selected_row row q in
+    let t : Bool = is_selected_row row2 q in
     let out : Bool → List Shape
     → List Shape = λ (on : Bool) (zs : List Shape). Wire (x + 14) y (x + 14) (x + 14 + name) y on ∷ zs in
     let ones : List Shape = row_closes a row m (suc q) x y es in
@@ -189,15 +193,16 @@ module _ (p q : Plan) (k : ArePlans p q) where
     pens_same : (pen : Pen) (items : Items) → pen_after p pen items ≡ pen_after q pen items
     pens_same pen Nothing = refl
     pens_same pen (RegThen r rest) =
-        ap (λ (w : ℕ). pen_after p (after_register (ready pen) w) rest) (k.box r)
-        ∙ pens_same (after_register (ready pen) (box_of q r)) rest
+        ap (λ (w : ℕ). pen_after p (after_register (next_wire_start pen) w) rest) (k.box r)
+        ∙ pens_same (after_register (next_wire_start pen) (box_of q r)) rest
     pens_same pen (MuxThen m rows rest) =
-        ap (λ (g : Fan). pen_after p (after_mux (ready pen) g (mux_of p m).values (mux_of p m).name) rest)
-        (fans_same (fan_at (ready pen)) rows)
-        ∙ ap (λ (v : ℕ). pen_after p (after_mux (ready pen)
-        (fan_after q (fan_at (ready pen)) rows) v (mux_of p m).name) rest) (k.values m)
-        ∙ ap (λ (n : ℕ). pen_after p (after_mux (ready pen)
-        (fan_after q (fan_at (ready pen)) rows) (mux_of q m).values n) rest) (k.name m)
+        ap (λ (g : Fan). pen_after p (after_mux (next_wire_start pen) g (mux_of p m).values (mux_of p
+        m).name) rest)
+        (fans_same (fan_at (next_wire_start pen)) rows)
+        ∙ ap (λ (v : ℕ). pen_after p (after_mux (next_wire_start pen)
+        (fan_after q (fan_at (next_wire_start pen)) rows) v (mux_of p m).name) rest) (k.values m)
+        ∙ ap (λ (n : ℕ). pen_after p (after_mux (next_wire_start pen)
+        (fan_after q (fan_at (next_wire_start pen)) rows) (mux_of q m).values n) rest) (k.name m)
         ∙ pens_same (pen_past q pen m rows) rest
 
     fans_same : (f : Fan) (rows : Rows) → fan_after p f rows ≡ fan_after q f rows
@@ -208,11 +213,13 @@ module _ (p q : Plan) (k : ArePlans p q) where
 
   past_same : (pen : Pen) (m : ℕ) (rows : Rows) → pen_past p pen m rows ≡ pen_past q pen m rows
   past_same pen m rows =
-      ap (λ (g : Fan). after_mux (ready pen) g (mux_of p m).values (mux_of p m).name)
-      (fans_same (fan_at (ready pen)) rows)
-      ∙ ap (λ (v : ℕ). after_mux (ready pen) (fan_after q (fan_at (ready pen)) rows) v (mux_of p m).name)
+      ap (λ (g : Fan). after_mux (next_wire_start pen) g (mux_of p m).values (mux_of p m).name)
+      (fans_same (fan_at (next_wire_start pen)) rows)
+      ∙ ap (λ (v : ℕ). after_mux (next_wire_start pen) (fan_after q (fan_at (next_wire_start pen)) rows) v
+      (mux_of p m).name)
       (k.values m)
-      ∙ ap (λ (n : ℕ). after_mux (ready pen) (fan_after q (fan_at (ready pen)) rows) (mux_of q m).values n)
+      ∙ ap (λ (n : ℕ). after_mux (next_wire_start pen) (fan_after q (fan_at (next_wire_start pen)) rows)
+      (mux_of q m).values n)
       (k.name m)
 
   ends_same : (f : Fan) (rows : Rows) → row_ends p f rows ≡ row_ends q f rows
@@ -251,31 +258,32 @@ module _ (p q : Plan) (k : ArePlans p q) where
         → AreAlike (drawn p a pen items) (drawn q b pen items)
     items_alike a b pen Nothing = alike_none
     items_alike a b pen (RegThen r rest) =
-        let x : ℕ = (ready pen).x + 18 in
-        let y : ℕ = (ready pen).y in
-        let here : Pen = after_register (ready pen) (box_of p r) in
+        let x : ℕ = (next_wire_start pen).x + 18 in
+        let y : ℕ = (next_wire_start pen).y in
+        let here : Pen = after_register (next_wire_start pen) (box_of p r) in
         alike_both (register_drawn a pen r (box_of p r)) (register_drawn b pen r (box_of q r))
-        (drawn p a here rest) (drawn q b (after_register (ready pen) (box_of q r)) rest)
+        (drawn p a here rest) (drawn q b (after_register (next_wire_start pen) (box_of q r)) rest)
         (alike_both (wire_to a pen) (wire_to b pen) (Register r x y (box_of p r) a ∷ [])
         (Register r x y (box_of q r) b ∷ []) (wires_alike a b pen)
         (alike_one (Register r x y (box_of p r) a) (Register r x y (box_of q r) b)
         (ap (λ (w : ℕ). Register r x y w false) (k.box r)) (λ s. refl) (λ s. refl)))
-        (subst (λ (w : ℕ). AreAlike (drawn p a here rest) (drawn q b (after_register (ready pen) w) rest))
+        (subst (λ (w : ℕ). AreAlike (drawn p a here rest) (drawn q b (after_register (next_wire_start pen)
+        w) rest))
         (k.box r) (items_alike a b here rest))
     items_alike a b pen (MuxThen m rows rest) =
-        let f : Fan = fan_at (ready pen) in
+        let f : Fan = fan_at (next_wire_start pen) in
         let here : Pen = pen_past p pen m rows in
-        let ones : List Shape = rows_drawn p a (mux_of p m).row (ready pen) 0 f rows in
-        let twos : List Shape = rows_drawn q b (mux_of q m).row (ready pen) 0 f rows in
+        let ones : List Shape = rows_drawn p a (mux_of p m).row (next_wire_start pen) 0 f rows in
+        let twos : List Shape = rows_drawn q b (mux_of q m).row (next_wire_start pen) 0 f rows in
         let close : List Shape =
-        mux_close a (mux_of p m) m (ready pen) (fan_after p f rows) (row_ends p f rows) in
+        mux_close a (mux_of p m) m (next_wire_start pen) (fan_after p f rows) (row_ends p f rows) in
         let shut : List Shape =
-        mux_close b (mux_of q m) m (ready pen) (fan_after q f rows) (row_ends q f rows) in
+        mux_close b (mux_of q m) m (next_wire_start pen) (fan_after q f rows) (row_ends q f rows) in
         alike_both (mux_drawn p a pen m rows) (mux_drawn q b pen m rows) (drawn p a here rest)
         (drawn q b (pen_past q pen m rows) rest)
         (alike_both (wire_to a pen) (wire_to b pen) (ones ++ close) (twos ++ shut) (wires_alike a b pen)
         (alike_both ones twos close shut (rows_alike a b (mux_of p m).row (mux_of q m).row
-        (ready pen) 0 f rows) (close_alike a b m (ready pen) f rows)))
+        (next_wire_start pen) 0 f rows) (close_alike a b m (next_wire_start pen) f rows)))
         (subst (λ (e : Pen). AreAlike (drawn p a here rest) (drawn q b e rest))
         (past_same pen m rows) (items_alike a b here rest))
 
@@ -284,8 +292,8 @@ module _ (p q : Plan) (k : ArePlans p q) where
     rows_alike a b row row2 pen n f NoRow = alike_none
     rows_alike a b row row2 pen n f (RowThen items rest) =
         let start : Pen = start_at f.x f.y in
-        let on : Bool = a && is_row row n in
-        let up : Bool = b && is_row row2 n in
+        let on : Bool = a && is_selected_row row n in
+        let up : Bool = b && is_selected_row row2 n in
         let next : Fan = after_row f (pen_after p start items) in
         let ones : List Shape = rows_drawn p a row pen (suc n) next rest in
         alike_both (row_wire on pen f ∷ drawn p on start items) (row_wire up pen f ∷ drawn q up start items)

@@ -40,8 +40,8 @@ use Rattle.net_picture.specs.Edges.{node_of, edge_to_register, edge_of_row, edge
 use Rattle.net_picture.specs.Edges.{edge_to_scan_out, edges}
 use Rattle.net_picture.specs.Labels.{ends_of, range_if, range_of, range_text, register_label, row_values}
 use Rattle.net_picture.specs.Labels.{short, short_values}
-use Rattle.net_picture.specs.Layout.{is_row}
-use Rattle.net_picture.specs.Met.{met, is_marked, is_met, is_mux_met}
+use Rattle.net_picture.specs.Layout.{is_selected_row}
+use Rattle.net_picture.specs.Met.{met, is_marked, is_on_path, is_mux_met}
 use Rattle.net_picture.specs.ReadGraph.{read_graph}
 use Rattle.net_picture.specs.Said.{Colour, Plain, Orange, Red, Said, Begins, Ends, HasNode, HasEdge}
 use Rattle.net_picture.specs.Said.{edge_colour, node_colour, said_register, said_to_register, said_mux}
@@ -242,13 +242,13 @@ module _ (net : Net) (n : IsNet net) where
 
   read_register_edge : (points : List Point) (r : ℕ)
       → r < length net.regs.items → Reads (register_edge net points r)
-      (HasEdge (edge_to_register net r) (edge_colour (is_met points (Reg r))) ∷ [])
+      (HasEdge (edge_to_register net r) (edge_colour (is_on_path points (Reg r))) ∷ [])
   unfolding register_edge
   read_register_edge points r less =
-      let style = edge_style (is_met points (Reg r)) ++ (codes "];\n" ++ []) in
+      let style = edge_style (is_on_path points (Reg r)) ++ (codes "];\n" ++ []) in
       from_point (reg_source net r) (sources_there net.regs.items r n.regs) 114 (decimal r) style []
-      (Register r) Source (edge_colour (is_met points (Reg r)))
-      (register_word net r n less) (plain_style (is_met points (Reg r)))
+      (Register r) Source (edge_colour (is_on_path points (Reg r)))
+      (register_word net r n less) (plain_style (is_on_path points (Reg r)))
 
   edge_tail : (active : Bool) → IsTail (edge_style active ++ (codes "];\n" ++ [])) (edge_colour active)
   edge_tail true = record {
@@ -282,10 +282,10 @@ module _ (net : Net) (n : IsNet net) where
 
   read_row_line : (active : Bool) (selected : Option ℕ) (m q : ℕ) → m < length net.muxes.items
       → Reads (row_line net active selected m q)
-      (HasEdge (edge_of_row net m q) (edge_colour (active && is_row selected q)) ∷ [])
+      (HasEdge (edge_of_row net m q) (edge_colour (active && is_selected_row selected q)) ∷ [])
   read_row_line active selected m q less =
       read_labelled_edge (row_source net m q) (muxes_there net.muxes.items m q n.muxes) m less
-      (short_values net m q) (active && is_row selected q)
+      (short_values net m q) (active && is_selected_row selected q)
       (short_plain 7 (row_values (rows_of net m) q) (row_plain (rows_of net m) q))
 
   read_select_edge : (m : ℕ) (b : BitId) → m < length net.muxes.items → IsBitOf net b
@@ -446,9 +446,9 @@ module _ (net : Net) (n : IsNet net) where
 
   read_register_node : (marked : Option Point) (points : List Point) (r : ℕ) → r < length net.regs.items
       → Reads (register_node net marked points r) (HasNode (Register r) (register_label net r)
-      (node_colour (is_marked marked (Reg r)) (is_met points (Reg r))) ∷ [])
+      (node_colour (is_marked marked (Reg r)) (is_on_path points (Reg r))) ∷ [])
   read_register_node marked points r less =
-      let active = is_met points (Reg r) in
+      let active = is_on_path points (Reg r) in
       let red = is_marked marked (Reg r) in
       read_node 114 r (Register r) (register_label net r) (codes "\"") (node_style red active)
       (node_colour red active) (register_word net r n less)
@@ -456,9 +456,9 @@ module _ (net : Net) (n : IsNet net) where
 
   read_mux_node : (marked : Option Point) (points : List Point) (m : ℕ) → m < length net.muxes.items
       → Reads (mux_node net marked points m) (HasNode (Multiplexer m) (mux_path net m)
-      (node_colour (is_marked marked (Mux m)) (is_met points (Mux m))) ∷ [])
+      (node_colour (is_marked marked (Mux m)) (is_on_path points (Mux m))) ∷ [])
   read_mux_node marked points m less =
-      let active = is_met points (Mux m) in
+      let active = is_on_path points (Mux m) in
       let red = is_marked marked (Mux m) in
       read_node 109 m (Multiplexer m) (mux_path net m) (codes "\", shape=trapezium, orientation=270")
       (node_style red active) (node_colour red active) (mux_word net m n less)

@@ -15,8 +15,8 @@ use Rattle.net_picture.specs.declared.pen.Fan.{Fan}
 use Rattle.net_picture.specs.declared.shape.Shape.{Shape}
 use Rattle.net_picture.specs.declared.shape.RowEnd.{RowEnd}
 use Rattle.net_picture.specs.Layout.{drawn, pen_after, fan_after, row_ends, rows_drawn, register_drawn}
-use Rattle.net_picture.specs.Layout.{mux_drawn, mux_close, pen_past, wire_to, row_wire, is_row}
-use Rattle.net_picture.specs.Pens.{start_at, ready, after_register, after_row, fan_at, after_mux}
+use Rattle.net_picture.specs.Layout.{mux_drawn, mux_close, pen_past, wire_to, row_wire, is_selected_row}
+use Rattle.net_picture.specs.Pens.{start_at, next_wire_start, after_register, after_row, fan_at, after_mux}
 use Rattle.net_picture.specs.Plan.{Plan, box_of, mux_of}
 use Rattle.net_picture.specs.Walk.{ItemsAreLeft, RowsAreLeft}
 
@@ -52,7 +52,7 @@ module _ (plan : Plan) (active : Bool) where
   register_step : (items : Items) (r : ℕ) (es : List Entry) (p q end : Pen) (shapes more all : List Shape)
       → Reg r ∷ es ≡ entries_of items → pen_after plan p items ≡ end
       → shapes ++ drawn plan active p items ≡ all
-      → q ≡ after_register (ready p) (box_of plan r)
+      → q ≡ after_register (next_wire_start p) (box_of plan r)
       → more ≡ shapes ++ register_drawn active p r (box_of plan r)
       → ItemsAreLeft plan active es q more end all
   register_step Nothing r es p q end shapes more all e a s qi mi = let no : ⊥ = cc in absurd no
@@ -60,8 +60,8 @@ module _ (plan : Plan) (active : Bool) where
   register_step (RegThen k rest) r es p q end shapes more all e a s qi mi =
       let same : r ≡ k = cc in
       let tail : es ≡ entries_of rest = cc in
-      let here : q ≡ after_register (ready p) (box_of plan k) =
-      qi ∙ ap (λ (n : ℕ). after_register (ready p) (box_of plan n)) same in
+      let here : q ≡ after_register (next_wire_start p) (box_of plan k) =
+      qi ∙ ap (λ (n : ℕ). after_register (next_wire_start p) (box_of plan n)) same in
       let added : more ≡ shapes ++ register_drawn active p k (box_of plan k) =
       mi ∙ ap (λ (n : ℕ). shapes ++ register_drawn active p n (box_of plan n)) same in
       record {
@@ -70,13 +70,14 @@ module _ (plan : Plan) (active : Bool) where
         end_is = ap (λ (x : Pen). pen_after plan x rest) here ∙ a;
         shapes_are = ap (λ (x : Pen). more ++ drawn plan active x rest) here
             ∙ ap (λ (xs : List Shape). xs
-            ++ drawn plan active (after_register (ready p) (box_of plan k)) rest) added
+            ++ drawn plan active (after_register (next_wire_start p) (box_of plan k)) rest) added
             ∙ append_assoc shapes (register_drawn active p k (box_of plan k))
-            (drawn plan active (after_register (ready p) (box_of plan k)) rest) ∙ s;
+            (drawn plan active (after_register (next_wire_start p) (box_of plan k)) rest) ∙ s;
       }
 
   pub register_left : (es : List Entry) (r : ℕ) (rest : List Entry) (p q end : Pen)
-      (shapes more all : List Shape) → es ≡ Reg r ∷ rest → q ≡ after_register (ready p) (box_of plan r)
+      (shapes more all : List Shape) → es ≡ Reg r ∷ rest → q ≡ after_register (next_wire_start p) (box_of
+      plan r)
       → more ≡ shapes ++ register_drawn active p r (box_of plan r)
       → ItemsAreLeft plan active es p shapes end all → ItemsAreLeft plan active rest q more end all
   register_left es r rest p q end shapes more all e qi mi left =
@@ -148,14 +149,14 @@ module _ (plan : Plan) (active : Bool) (row : Option ℕ) (from : Pen) where
   abbrev pub RowIsDrawn : ℕ → List Entry → Pen → Pen → List Shape → List Shape → Type 0
   RowIsDrawn q part start pen shapes more =
       (form : Items) → part ≡ entries_of form → (pen ≡ pen_after plan start form)
-      × (more ≡ shapes ++ drawn plan (active && is_row row q) start form)
+      × (more ≡ shapes ++ drawn plan (active && is_selected_row row q) start form)
 
   step : (rows : Rows) (q k n : ℕ) (tail after part next : List Entry) (f g end : Fan) (start pen : Pen)
       (shapes wired more all : List Shape) (ends ended all_ends : List RowEnd)
       → Row n ∷ tail ≡ row_entries rows ++ after → suc k ≡ row_count rows → fan_after plan f rows ≡ end
       → shapes ++ rows_drawn plan active row from q f rows ≡ all → ends ++ row_ends plan f rows ≡ all_ends
       → part ≡ take n tail → next ≡ drop n tail → start ≡ start_at f.x f.y
-      → wired ≡ shapes ++ row_wire (active && is_row row q) from f ∷ []
+      → wired ≡ shapes ++ row_wire (active && is_selected_row row q) from f ∷ []
       → RowIsDrawn q part start pen wired more
       → ended ≡ ends ++ record { x = pen.x; y = pen.y } ∷ [] → g ≡ after_row f pen
       → RowsAreLeft plan active row from (suc q) k next after g more ended end all all_ends
@@ -177,7 +178,7 @@ module _ (plan : Plan) (active : Bool) (row : Option ℕ) (from : Pen) where
       let first : Pen = start_at f.x f.y in
       let last : Pen = pen_after plan first items in
       let here : pen ≡ last = drew.0 ∙ ap (λ (x : Pen). pen_after plan x items) si in
-      let on : Bool = active && is_row row q in
+      let on : Bool = active && is_selected_row row q in
       let goes : g ≡ after_row f last = gi ∙ ap (after_row f) here in
       let new : List Shape = row_wire on from f ∷ drawn plan on first items in
       let added : more ≡ shapes ++ new = drew.1 ∙ ap (λ (x : Pen). wired ++ drawn plan on x items) si
@@ -203,7 +204,7 @@ module _ (plan : Plan) (active : Bool) (row : Option ℕ) (from : Pen) where
   pub row_left : (q k n : ℕ) (es tail after part next : List Entry) (f g end : Fan) (start pen : Pen)
       (shapes wired more all : List Shape) (ends ended all_ends : List RowEnd)
       → es ≡ Row n ∷ tail → part ≡ take n tail → next ≡ drop n tail → start ≡ start_at f.x f.y
-      → wired ≡ shapes ++ row_wire (active && is_row row q) from f ∷ []
+      → wired ≡ shapes ++ row_wire (active && is_selected_row row q) from f ∷ []
       → RowIsDrawn q part start pen wired more
       → ended ≡ ends ++ record { x = pen.x; y = pen.y } ∷ [] → g ≡ after_row f pen
       → RowsAreLeft plan active row from q (suc k) es after f shapes ends end all all_ends
@@ -287,13 +288,14 @@ if_ok (Err e) P Q f p = tt
 -- the rows of a multiplexer are drawn, and then its funnel
 pub mux_done : (plan : Plan) (active : Bool) (p : Pen) (m : ℕ) (rows : Rows) (pen q : Pen) (part : MuxPlan)
     (f g : Fan) (s0 s1 s2 s3 : List Shape) (none ends now : List RowEnd)
-    → pen ≡ ready p → part ≡ mux_of plan m → s1 ≡ s0 ++ wire_to active p → f ≡ fan_at pen → none ≡ []
+    → pen ≡ next_wire_start p → part ≡ mux_of plan m → s1 ≡ s0 ++ wire_to active p → f ≡ fan_at pen → none ≡
+    []
     → g ≡ fan_after plan f rows → s2 ≡ s1 ++ rows_drawn plan active part.row pen 0 f rows
     → ends ≡ none ++ row_ends plan f rows → now ≡ ends
     → s3 ≡ s2 ++ mux_close active part m pen g now → q ≡ after_mux pen g part.values part.name
     → (q ≡ pen_past plan p m rows) × (s3 ≡ s0 ++ mux_drawn plan active p m rows)
 mux_done plan active p m rows pen q part f g s0 s1 s2 s3 none ends now pi ti wi fi ni gi ri ei wi2 ci qi =
-    let from : Pen = ready p in
+    let from : Pen = next_wire_start p in
     let fan : Fan = fan_at from in
     let last : Fan = fan_after plan fan rows in
     let known : MuxPlan = mux_of plan m in

@@ -16,8 +16,8 @@ use Rattle.net_picture.specs.declared.shape.Shape.{Shape}
 use Rattle.net_picture.specs.declared.shape.Shape.TheVariants.{Register, Mux, Wire}
 use Rattle.net_picture.specs.Drawing.{shapes_of, first_pen, drawing_of}
 use Rattle.net_picture.specs.Layout.{drawn, pen_after, fan_after, rows_drawn, register_drawn, mux_drawn}
-use Rattle.net_picture.specs.Layout.{pen_past, row_wire, is_row}
-use Rattle.net_picture.specs.Pens.{start_at, ready, after_register, after_row, fan_at, funnel_at}
+use Rattle.net_picture.specs.Layout.{pen_past, row_wire, is_selected_row}
+use Rattle.net_picture.specs.Pens.{start_at, next_wire_start, after_register, after_row, fan_at, funnel_at}
 use Rattle.net_picture.specs.Plan.{Plan, box_of, mux_of, plan_of, has_path}
 use Rattle.net_picture.specs.Whole.{box_of_shape, funnel_of_shape, boxes_in, funnels_in}
 use Rattle.net_picture.proofs.Gathering.{IsOfThings, picked_register, picked_mux, picked_row, picked_both}
@@ -51,30 +51,33 @@ module _ (f : Shape → List ℕ) (reg mux : ℕ → List ℕ) (k : Picks f reg 
         → flat_map f (drawn plan active p items) ≡ gather reg mux items
     gathered active p Nothing = refl
     gathered active p (RegThen r rest) =
-        let q : Pen = after_register (ready p) (box_of plan r) in
+        let q : Pen = after_register (next_wire_start p) (box_of plan r) in
         picked_both f k.of_things (register_drawn active p r (box_of plan r))
         (drawn plan active q rest) (reg r) (gather reg mux rest)
         (picked_register f k.of_things active p r (box_of plan r)
-        ∙ k.box r ((ready p).x + 18) (ready p).y (box_of plan r) active) (gathered active q rest)
+        ∙ k.box r ((next_wire_start p).x + 18) (next_wire_start p).y (box_of plan r) active) (gathered
+        active q rest)
     gathered active p (MuxThen m rows rest) =
         let q : Pen = pen_past plan p m rows in
-        let g : Fan = fan_at (ready p) in
-        let inside : List Shape = rows_drawn plan active (mux_of plan m).row (ready p) 0 g rows in
+        let g : Fan = fan_at (next_wire_start p) in
+        let inside : List Shape = rows_drawn plan active (mux_of plan m).row (next_wire_start p) 0 g rows in
         let end : Fan = fan_after plan g rows in
         picked_both f k.of_things (mux_drawn plan active p m rows) (drawn plan active q rest)
         (gather_rows reg mux rows ++ mux m) (gather reg mux rest)
         (picked_mux f k.of_things plan active p m rows
-        ∙ ap (λ (xs : List ℕ). xs ++ f (Mux m (funnel_at end (mux_of plan m).values) (ready p).y
-        (end.last - (ready p).y) active)) (gathered_rows active (mux_of plan m).row (ready p) 0 g rows)
+        ∙ ap (λ (xs : List ℕ). xs ++ f (Mux m (funnel_at end (mux_of plan m).values) (next_wire_start p).y
+        (end.last - (next_wire_start p).y) active)) (gathered_rows active (mux_of plan m).row
+        (next_wire_start p) 0 g rows)
         ∙ ap (λ (xs : List ℕ). gather_rows reg mux rows ++ xs)
-        (k.funnel m (funnel_at end (mux_of plan m).values) (ready p).y (end.last - (ready p).y) active))
+        (k.funnel m (funnel_at end (mux_of plan m).values) (next_wire_start p).y (end.last -
+        (next_wire_start p).y) active))
         (gathered active q rest)
 
     gathered_rows : (active : Bool) (row : Option ℕ) (p : Pen) (q : ℕ) (g : Fan) (rows : Rows)
         → flat_map f (rows_drawn plan active row p q g rows) ≡ gather_rows reg mux rows
     gathered_rows active row p q g NoRow = refl
     gathered_rows active row p q g (RowThen items rest) =
-        let on : Bool = active && is_row row q in
+        let on : Bool = active && is_selected_row row q in
         let start : Pen = start_at g.x g.y in
         let next : Fan = after_row g (pen_after plan start items) in
         picked_both f k.of_things (row_wire on p g ∷ drawn plan on start items)

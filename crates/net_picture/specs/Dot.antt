@@ -13,8 +13,8 @@ use Rattle.net_graph.specs.Signals.{Holds}
 use Rattle.net_list.specs.Listing.{lines_from}
 use Rattle.net_tree.specs.Lawful.{selects_of}
 use Rattle.net_picture.specs.Labels.{register_label, short_values}
-use Rattle.net_picture.specs.Layout.{is_row}
-use Rattle.net_picture.specs.Met.{met, is_marked, is_met}
+use Rattle.net_picture.specs.Layout.{is_selected_row}
+use Rattle.net_picture.specs.Met.{met, is_marked, is_on_path}
 use Rattle.net_picture.specs.Plan.{has_path}
 
 -- the name of a node: tdi, a register or a multiplexer by its number
@@ -46,18 +46,18 @@ node_text letters number label form style =
 abbrev pub register_node : Net → Option Point → List Point → ℕ → List ℕ
 register_node net marked points r =
     node_text (codes "  r") r (register_label net r) (codes "\"")
-    (node_style (is_marked marked (Reg r)) (is_met points (Reg r)))
+    (node_style (is_marked marked (Reg r)) (is_on_path points (Reg r)))
 
 abbrev pub mux_node : Net → Option Point → List Point → ℕ → List ℕ
 mux_node net marked points m =
     node_text (codes "  m") m (mux_path net m) (codes "\", shape=trapezium, orientation=270")
-    (node_style (is_marked marked (Mux m)) (is_met points (Mux m)))
+    (node_style (is_marked marked (Mux m)) (is_on_path points (Mux m)))
 
 -- an edge from a source to a register
 unfoldable pub register_edge : Net → List Point → ℕ → List ℕ
 register_edge net points r =
     codes "  " ++ (node_letters (reg_source net r) ++ (node_number (reg_source net r) ++ (codes " -> r"
-    ++ (decimal r ++ (codes " [" ++ (edge_style (is_met points (Reg r)) ++ (codes "];\n" ++ [])))))))
+    ++ (decimal r ++ (codes " [" ++ (edge_style (is_on_path points (Reg r)) ++ (codes "];\n" ++ [])))))))
 
 -- the source of row q
 abbrev pub row_source : Net → ℕ → ℕ → Point
@@ -77,7 +77,7 @@ row_edge net active m q =
 
 -- the edge of the row that is selected is on the active path where its multiplexer is
 abbrev pub row_line : Net → Bool → Option ℕ → ℕ → ℕ → List ℕ
-row_line net active selected m q = row_edge net (active && is_row selected q) m q
+row_line net active selected m q = row_edge net (active && is_selected_row selected q) m q
 
 -- an edge from a select bit's register
 unfoldable pub select_edge : ℕ → BitId → List ℕ
@@ -87,7 +87,7 @@ select_edge m b =
 
 abbrev pub mux_edges : Net → Holds → List Point → ℕ → List ℕ
 mux_edges net holds points m =
-    lines_from (row_line net (is_met points (Mux m)) (row_of net holds m) m) 0 (length (rows_of net m))
+    lines_from (row_line net (is_on_path points (Mux m)) (row_of net holds m) m) 0 (length (rows_of net m))
     ++ flat_map (select_edge m) (selects_of net m)
 
 unfoldable pub output_edge : Net → Bool → List ℕ

@@ -10,7 +10,8 @@ use Rattle.net_picture.specs.declared.pen.Fan.{Fan}
 use Rattle.net_picture.specs.declared.shape.Shape.{Shape}
 use Rattle.net_picture.specs.declared.shape.Shape.TheVariants.{Register, Mux, Values, Wire}
 use Rattle.net_picture.specs.declared.shape.RowEnd.{RowEnd}
-use Rattle.net_picture.specs.Pens.{start_at, is_full, ready, after_register, fan_at, after_row, funnel_at}
+use Rattle.net_picture.specs.Pens.{start_at, is_full, next_wire_start, after_register, fan_at, after_row}
+use Rattle.net_picture.specs.Pens.{funnel_at}
 use Rattle.net_picture.specs.Pens.{after_mux}
 use Rattle.net_picture.specs.Plan.{Plan, box_of, mux_of}
 
@@ -18,9 +19,9 @@ use Rattle.net_picture.specs.Plan.{Plan, box_of, mux_of}
 abbrev mutual
   pub pen_after : Plan → Pen → Items → Pen
   pen_after plan p Nothing = p
-  pen_after plan p (RegThen r rest) = pen_after plan (after_register (ready p) (box_of plan r)) rest
+  pen_after plan p (RegThen r rest) = pen_after plan (after_register (next_wire_start p) (box_of plan r)) rest
   pen_after plan p (MuxThen m rows rest) =
-      pen_after plan (after_mux (ready p) (fan_after plan (fan_at (ready p)) rows)
+      pen_after plan (after_mux (next_wire_start p) (fan_after plan (fan_at (next_wire_start p)) rows)
       (mux_of plan m).values (mux_of plan m).name) rest
 
   pub fan_after : Plan → Fan → Rows → Fan
@@ -36,9 +37,9 @@ row_ends plan f (RowThen items rest) =
     record { x = p.x; y = p.y } ∷ row_ends plan (after_row f p) rest
 
 -- whether the row that is selected is row q
-abbrev pub is_row : Option ℕ → ℕ → Bool
-is_row None q = false
-is_row (Some k) q = k == q
+abbrev pub is_selected_row : Option ℕ → ℕ → Bool
+is_selected_row None q = false
+is_selected_row (Some k) q = k == q
 
 -- the wire from the end of a line that is full to the beginning of the next one, and the wire to the next
 -- item
@@ -49,7 +50,8 @@ turn_back active p =
 
 abbrev pub wire_to : Bool → Pen → List Shape
 wire_to active p =
-    turn_back active p ++ Wire (ready p).x (ready p).y (ready p).x ((ready p).x + 18) (ready p).y active ∷ []
+    turn_back active p ++ Wire (next_wire_start p).x (next_wire_start p).y (next_wire_start p).x
+    ((next_wire_start p).x + 18) (next_wire_start p).y active ∷ []
 
 -- the wire from the place where rows part to the beginning of a row
 abbrev pub row_wire : Bool → Pen → Fan → Shape
@@ -67,7 +69,7 @@ row_close selected active m q x y e =
 abbrev pub row_closes : Bool → Option ℕ → ℕ → ℕ → ℕ → ℕ → List RowEnd → List Shape
 row_closes active row m q x y [] = []
 row_closes active row m q x y (e ∷ es) =
-    row_close (is_row row q) active m q x y e ++ row_closes active row m (suc q) x y es
+    row_close (is_selected_row row q) active m q x y e ++ row_closes active row m (suc q) x y es
 
 -- the funnel with its output wire
 abbrev pub mux_close : Bool → MuxPlan → ℕ → Pen → Fan → List RowEnd → List Shape
@@ -81,32 +83,39 @@ abbrev mutual
   pub drawn : Plan → Bool → Pen → Items → List Shape
   drawn plan active p Nothing = []
   drawn plan active p (RegThen r rest) =
-      (wire_to active p ++ Register r ((ready p).x + 18) (ready p).y (box_of plan r) active ∷ [])
-      ++ drawn plan active (after_register (ready p) (box_of plan r)) rest
+      (wire_to active p ++ Register r ((next_wire_start p).x + 18) (next_wire_start p).y (box_of plan r)
+      active ∷ [])
+      ++ drawn plan active (after_register (next_wire_start p) (box_of plan r)) rest
   drawn plan active p (MuxThen m rows rest) =
-      (wire_to active p ++ (rows_drawn plan active (mux_of plan m).row (ready p) 0 (fan_at (ready p)) rows
-      ++ mux_close active (mux_of plan m) m (ready p) (fan_after plan (fan_at (ready p)) rows)
-      (row_ends plan (fan_at (ready p)) rows))) ++ drawn plan active (after_mux (ready p)
-      (fan_after plan (fan_at (ready p)) rows) (mux_of plan m).values (mux_of plan m).name) rest
+      (wire_to active p ++ (rows_drawn plan active (mux_of plan m).row (next_wire_start p) 0 (fan_at
+      (next_wire_start p)) rows
+      ++ mux_close active (mux_of plan m) m (next_wire_start p) (fan_after plan (fan_at (next_wire_start p))
+      rows)
+      (row_ends plan (fan_at (next_wire_start p)) rows))) ++ drawn plan active (after_mux (next_wire_start p)
+      (fan_after plan (fan_at (next_wire_start p)) rows) (mux_of plan m).values (mux_of plan m).name) rest
 
   pub rows_drawn : Plan → Bool → Option ℕ → Pen → ℕ → Fan → Rows → List Shape
   rows_drawn plan active row p q f NoRow = []
   rows_drawn plan active row p q f (RowThen items rest) =
-      (row_wire (active && is_row row q) p f ∷ drawn plan (active && is_row row q) (start_at f.x f.y) items)
+      (row_wire (active && is_selected_row row q) p f ∷ drawn plan (active && is_selected_row row q)
+      (start_at f.x f.y) items)
       ++ rows_drawn plan active row p (suc q) (after_row f (pen_after plan (start_at f.x f.y) items)) rest
 
 -- a multiplexer with its rows, and where the list goes on after it
 abbrev pub mux_drawn : Plan → Bool → Pen → ℕ → Rows → List Shape
 mux_drawn plan active p m rows =
-    wire_to active p ++ (rows_drawn plan active (mux_of plan m).row (ready p) 0 (fan_at (ready p)) rows
-    ++ mux_close active (mux_of plan m) m (ready p) (fan_after plan (fan_at (ready p)) rows)
-    (row_ends plan (fan_at (ready p)) rows))
+    wire_to active p ++ (rows_drawn plan active (mux_of plan m).row (next_wire_start p) 0 (fan_at
+    (next_wire_start p)) rows
+    ++ mux_close active (mux_of plan m) m (next_wire_start p) (fan_after plan (fan_at (next_wire_start p))
+    rows)
+    (row_ends plan (fan_at (next_wire_start p)) rows))
 
 abbrev pub pen_past : Plan → Pen → ℕ → Rows → Pen
 pen_past plan p m rows =
-    after_mux (ready p) (fan_after plan (fan_at (ready p)) rows) (mux_of plan m).values (mux_of plan m).name
+    after_mux (next_wire_start p) (fan_after plan (fan_at (next_wire_start p)) rows) (mux_of plan m).values
+    (mux_of plan m).name
 
 -- a register after its wire
 abbrev pub register_drawn : Bool → Pen → ℕ → ℕ → List Shape
 register_drawn active p r width =
-    wire_to active p ++ Register r ((ready p).x + 18) (ready p).y width active ∷ []
+    wire_to active p ++ Register r ((next_wire_start p).x + 18) (next_wire_start p).y width active ∷ []

@@ -8,7 +8,7 @@ use Rattle.net_graph.specs.declared.net.Point.TheVariants.{Entry, Reg, Mux}
 use Rattle.net_graph.specs.Path.{mux_source, reg_source, route_of, row_of}
 use Rattle.net_graph.specs.Signals.{Holds}
 use Rattle.net_tree.specs.Places.{same_point}
-use Rattle.net_picture.specs.Layout.{is_row}
+use Rattle.net_picture.specs.Layout.{is_selected_row}
 use Rattle.net_picture.specs.Plan.{has_path}
 
 -- what comes before a point on the active path; nothing before scan-in, or before a multiplexer that is in
@@ -31,8 +31,8 @@ trace_back net holds = met_from net holds (length net.regs.items + length net.mu
 abbrev pub met : Net → Holds → List Point
 met net holds = cond (has_path net holds) (trace_back net holds) []
 
-abbrev pub is_met : List Point → Point → Bool
-is_met points p = list_any (same_point p) points
+abbrev pub is_on_path : List Point → Point → Bool
+is_on_path points p = list_any (same_point p) points
 
 -- whether a point is the one that is marked
 abbrev pub is_marked : Option Point → Point → Bool
@@ -41,10 +41,10 @@ is_marked (Some q) p = same_point q p
 
 -- a multiplexer is on the active path, and one of its rows where it is the one that is selected, too
 abbrev pub is_mux_met : Net → Holds → ℕ → Bool
-is_mux_met net holds m = is_met (met net holds) (Mux m)
+is_mux_met net holds m = is_on_path (met net holds) (Mux m)
 
 abbrev pub is_row_met : Net → Holds → ℕ → ℕ → Bool
-is_row_met net holds m q = is_mux_met net holds m && is_row (row_of net holds m) q
+is_row_met net holds m q = is_mux_met net holds m && is_selected_row (row_of net holds m) q
 
 -- the registers among points
 abbrev pub register_at : Point → List ℕ

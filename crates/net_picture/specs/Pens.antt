@@ -23,8 +23,8 @@ next_line p = record {
 }
 
 -- where the next item's wire begins
-abbrev pub ready : Pen → Pen
-ready p = cond (is_full p) (next_line p) p
+abbrev pub next_wire_start : Pen → Pen
+next_wire_start p = cond (is_full p) (next_line p) p
 
 -- an item ends at x, and reaches down to bottom
 abbrev pub moved : Pen → ℕ → ℕ → Pen

@@ -7,7 +7,7 @@ use Rattle.net_graph.specs.PathNames.{mux_path}
 use Rattle.net_graph.specs.Signals.{Holds}
 use Rattle.net_tree.specs.Form.{Items}
 use Rattle.net_list.specs.declared.format.ListFormat.TheVariants.{Text}
-use Rattle.net_list.specs.Lines.{reset_text, rows_text, selected_by, selects_of_text, selects_text}
+use Rattle.net_list.specs.Lines.{reset_text, rows_text, muxes_selected_by, selects_of_text, selects_text}
 use Rattle.net_list.specs.Lines.{width_text}
 use Rattle.net_picture.specs.declared.drawing.View.{View}
 use Rattle.net_picture.specs.declared.shape.Shape.{Shape}
@@ -49,7 +49,7 @@ box_text title label class round x y width =
 abbrev pub register_text : Net → ℕ → ℕ → ℕ → ℕ → Bool → List ℕ
 register_text net r x y width active =
     box_text (register_title net r) (short_register net r)
-    (class_text active (codes "b a") (codes "b")) (corner_radius (selected_by net r)) x y width
+    (class_text active (codes "b a") (codes "b")) (corner_radius (muxes_selected_by net r)) x y width
 
 -- a funnel with its tooltip and its label
 unfoldable pub funnel_text : List ℕ → List ℕ → List ℕ → ℕ → ℕ → ℕ → List ℕ

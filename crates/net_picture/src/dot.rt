@@ -9,12 +9,12 @@ ghost use Rattle.net_graph.specs.Nets.{IsNet};
 ghost use Rattle.net_graph.specs.Path as paths;
 ghost use Rattle.net_list.specs.Listing.{lines_from};
 ghost use Rattle.net_picture.specs.Dot as dot;
-ghost use Rattle.net_picture.specs.Layout.{is_row as selects_row};
+ghost use Rattle.net_picture.specs.Layout.{is_selected_row as selects_row};
 ghost use Rattle.net_tree.specs.Lawful.{selects_of};
 
 use crate::labels::{mux_label, register_label};
-use crate::layout::is_row;
-use crate::met::{is_marked, is_met, met};
+use crate::layout::is_selected_row;
+use crate::met::{is_marked, is_on_path, met};
 use crate::plan::has_path;
 use crate::texts::short_values;
 use ij_io::{Sink, StoreFault, Word, put_words};
@@ -93,7 +93,7 @@ fn put_register_node<K: Sink>(
 {
     let point = Point::Reg(reg);
     let label = register_label(alloc, net, reg)?;
-    let style = node_style(is_marked(marks.marked, point), is_met(marks.met, point));
+    let style = node_style(is_marked(marks.marked, point), is_on_path(marks.met, point));
     put_node(b"  r", reg, label.bytes(), b"\"", style, k)
 }
 
@@ -115,7 +115,7 @@ fn put_mux_node<K: Sink>(
 {
     let point = Point::Mux(mux);
     let label = mux_label(alloc, net, mux)?;
-    let style = node_style(is_marked(marks.marked, point), is_met(marks.met, point));
+    let style = node_style(is_marked(marks.marked, point), is_on_path(marks.met, point));
     put_node(
         b"  m",
         mux,
@@ -178,7 +178,7 @@ fn put_register_edge<K: Sink>(
         Word::Text(b" -> r"),
         Word::Number(u64::from(reg)),
         Word::Text(b" ["),
-        Word::Text(edge_style(is_met(met, Point::Reg(reg)))),
+        Word::Text(edge_style(is_on_path(met, Point::Reg(reg)))),
         Word::Text(b"];\n"),
     ];
     put_words(k, &words)
@@ -254,10 +254,10 @@ fn put_row_edge<K: Sink>(
 }
 
 /// Whether the edge of a row is on the active path.
-fn is_shown(active: bool, selected: Option<u32>, row: usize) -> bool
+fn is_edge_active(active: bool, selected: Option<u32>, row: usize) -> bool
     ensures { result ≡ (active && selects_row selected row) }
 {
-    active && is_row(selected, row)
+    active && is_selected_row(selected, row)
 }
 
 /// Writes the edge of a row, on the active path where its multiplexer is and the row is selected.
@@ -278,7 +278,7 @@ fn put_row_line<K: Sink>(
         (AddsPart (K.taken k.old) (K.taken k.new) (dot.row_line net.now active selected mux row)) }
     ensures cause { HasCause (K.faults k.old) (K.faults k.new) result StoreFault.Failed }
 {
-    let shown = is_shown(active, selected, row);
+    let shown = is_edge_active(active, selected, row);
     put_row_edge(alloc, net, shown, mux, row, k)
 }
 
@@ -371,7 +371,7 @@ fn put_mux_edges<K: Sink>(
     ensures cause { HasCause (K.faults k.old) (K.faults k.new) result StoreFault.Failed }
 {
     let selected = row_of(net, holds, mux);
-    let active = is_met(met, Point::Mux(mux));
+    let active = is_on_path(met, Point::Mux(mux));
     let bits = select_bits(net, mux);
     put_row_edges(alloc, net, active, selected, mux, k)?;
     put_select_edges(mux, bits, k)?;

@@ -3,7 +3,7 @@ ghost use Rattle.std.specs.Prelude.{◌≡◌, ◌+◌, ◌-◌, ◌++◌, ◌�
 ghost use Rattle.net_picture.specs.Layout as layout;
 ghost use Rattle.net_picture.specs.Pens as pens;
 
-use crate::layout::is_row;
+use crate::layout::is_selected_row;
 use crate::numbers::plus;
 use crate::pen::{Fan, Pen};
 use crate::plan::MuxPlan;
@@ -23,7 +23,7 @@ struct Funnel {
 /// Draws the wire from a full line to the beginning of the next one, and answers where the next item's wire
 /// begins.
 fn draw_turn(active: bool, pen: Pen, shapes: &mut Vec<Shape>) -> Result<Pen, OutOfMemory>
-    ensures pen { IfOk result (λ next. next ≡ pens.ready pen) }
+    ensures pen { IfOk result (λ next. next ≡ pens.next_wire_start pen) }
     ensures shapes { OnOk result (shapes.new.items ≡ shapes.old.items ++ layout.turn_back active pen) }
 {
     if pen.is_full()? {
@@ -45,7 +45,7 @@ fn draw_turn(active: bool, pen: Pen, shapes: &mut Vec<Shape>) -> Result<Pen, Out
             active,
         })?;
     }
-    pen.ready()
+    pen.next_wire_start()
 }
 
 /// Draws the wire to the next item, and answers where it begins.
@@ -54,7 +54,7 @@ pub(crate) fn draw_wire_to(
     pen: Pen,
     shapes: &mut Vec<Shape>,
 ) -> Result<Pen, OutOfMemory>
-    ensures pen { IfOk result (λ next. next ≡ pens.ready pen) }
+    ensures pen { IfOk result (λ next. next ≡ pens.next_wire_start pen) }
     ensures shapes { OnOk result (shapes.new.items ≡ shapes.old.items ++ layout.wire_to active pen) }
 {
     let from = draw_turn(active, pen, shapes)?;
@@ -77,7 +77,7 @@ pub(crate) fn draw_register(
     pen: Pen,
     shapes: &mut Vec<Shape>,
 ) -> Result<Pen, OutOfMemory>
-    ensures pen { IfOk result (λ next. next ≡ pens.after_register (pens.ready pen) width) }
+    ensures pen { IfOk result (λ next. next ≡ pens.after_register (pens.next_wire_start pen) width) }
     ensures shapes { OnOk result
         (shapes.new.items ≡ shapes.old.items ++ layout.register_drawn active pen reg width) }
 {
@@ -113,7 +113,7 @@ pub(crate) fn draw_row_wire(
 }
 
 /// Draws the wire within a funnel from the row that is selected.
-fn draw_row_shown(
+fn draw_selected_row_wire(
     selected: bool,
     funnel: Funnel,
     end: RowEnd,
@@ -136,7 +136,7 @@ fn draw_row_shown(
 }
 
 /// Draws the wire from the end of row q to the funnel, and the row's select values.
-fn draw_row_close(
+fn draw_row_to_funnel(
     selected: bool,
     funnel: Funnel,
     q: usize,
@@ -160,11 +160,11 @@ fn draw_row_close(
         x: funnel.x,
         y: end.y,
     })?;
-    draw_row_shown(selected, funnel, end, shapes)
+    draw_selected_row_wire(selected, funnel, end, shapes)
 }
 
 /// Draws the wires from the ends of all rows to the funnel.
-fn draw_row_closes(
+fn draw_rows_to_funnel(
     row: Option<u32>,
     funnel: Funnel,
     ends: &[RowEnd],
@@ -174,7 +174,7 @@ fn draw_row_closes(
         ≡ shapes.old.items ++ layout.row_closes funnel.active row funnel.mux 0 funnel.x funnel.y ends.now) }
 {
     for q in 0..ends.len() {
-        draw_row_close(is_row(row, q), funnel, q, ends[q], shapes)?;
+        draw_row_to_funnel(is_selected_row(row, q), funnel, q, ends[q], shapes)?;
     }
     Ok(())
 }
@@ -207,7 +207,7 @@ pub(crate) fn close_mux(
         x,
         y: pen.y,
     };
-    draw_row_closes(part.row, funnel, ends, shapes)?;
+    draw_rows_to_funnel(part.row, funnel, ends, shapes)?;
     shapes.push(Shape::Wire {
         x: output,
         y: pen.y,

@@ -9,7 +9,7 @@ ghost use Rattle.net_graph.specs.PathNames.{mux_path};
 ghost use Rattle.net_list.specs.Forms.{values_text};
 ghost use Rattle.net_picture.specs.Labels as labels;
 
-use crate::numbers::{greater, room_for};
+use crate::numbers::{greater, width_for_letters};
 use ij_bits::{OutOfMemory, Tern};
 use ij_io::{Sink, StoreFault, SureSink, Word, put_words};
 use net_graph::{BitId, Net, Row};
@@ -27,7 +27,7 @@ fn short_length(half: usize, letters: usize) -> usize
 
 /// Writes the ends of a text, and two dots in place of its middle.
 #[tactic(auto, unfolding(crate::specs::Labels::ends_of, ij_io::specs::Words::words_text))]
-fn put_ends<'a, K: Sink>(front: &'a [u8], back: &'a [u8], k: &mut K) -> Result<(), StoreFault>
+fn put_elided<'a, K: Sink>(front: &'a [u8], back: &'a [u8], k: &mut K) -> Result<(), StoreFault>
     ensures whole { OnOk result (Adds (K.taken k.old) (K.taken k.new) (labels.ends_of front.now back.now)) }
     ensures part { OnErr result
         (AddsPart (K.taken k.old) (K.taken k.new) (labels.ends_of front.now back.now)) }
@@ -46,7 +46,7 @@ pub(crate) fn put_short<K: Sink>(half: usize, text: &[u8], k: &mut K) -> Result<
     if text.len() <= 2 * half + 2 {
         return k.write(text);
     }
-    put_ends(&text[..half], &text[text.len() - half..], k)
+    put_elided(&text[..half], &text[text.len() - half..], k)
 }
 
 /// How many bits a register has.
@@ -191,7 +191,7 @@ pub(crate) fn box_width(alloc: Global, net: &Net, reg: u32) -> Result<u64, OutOf
 {
     let text = register_label(alloc, net, reg)?;
     let letters = short_length(19, text.bytes().len());
-    Ok(greater(40, room_for(7, letters, 14)?))
+    Ok(greater(40, width_for_letters(7, letters, 14)?))
 }
 
 /// The room for a multiplexer's name.
@@ -202,7 +202,7 @@ pub(crate) fn name_room(alloc: Global, net: &Net, mux: u32) -> Result<u64, OutOf
 {
     let text = mux_label(alloc, net, mux)?;
     let letters = short_length(9, text.bytes().len());
-    room_for(6, letters, 4)
+    width_for_letters(6, letters, 4)
 }
 
 /// The room for the select values of a row.
@@ -211,7 +211,7 @@ fn row_room(alloc: Global, row: &Row) -> Result<u64, OutOfMemory>
 {
     let text = values_label(alloc, row.values.as_slice())?;
     let letters = short_length(7, text.bytes().len());
-    room_for(6, letters, 10)
+    width_for_letters(6, letters, 10)
 }
 
 /// The room for the select values of each of these rows.

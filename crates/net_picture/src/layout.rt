@@ -45,16 +45,16 @@ struct Parting {
 
 impl Parting {
     /// Whether row q is on the active path.
-    fn shows(self, q: usize) -> bool
-        ensures { result ≡ (self.active && layout.is_row self.row q) }
+    fn is_row_active(self, q: usize) -> bool
+        ensures { result ≡ (self.active && layout.is_selected_row self.row q) }
     {
-        self.active && is_row(self.row, q)
+        self.active && is_selected_row(self.row, q)
     }
 }
 
 /// Whether a row is the one that is selected.
-pub(crate) fn is_row(row: Option<u32>, q: usize) -> bool
-    ensures { result ≡ layout.is_row row q }
+pub(crate) fn is_selected_row(row: Option<u32>, q: usize) -> bool
+    ensures { result ≡ layout.is_selected_row row q }
 {
     match row {
         Some(selected) => selected as usize == q,
@@ -215,7 +215,7 @@ fn draw_row(
     match entries[done.at] {
         Entry::Row(span) => {
             let end = span_end(entries, done.at, span);
-            let active = parting.shows(q);
+            let active = parting.is_row_active(q);
             draw_row_wire(active, parting.pen, done.fan, shapes)?;
             let start = Pen::start_at(done.fan.x, done.fan.y)?;
             let items = &entries[done.at + 1..end];

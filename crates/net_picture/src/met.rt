@@ -15,8 +15,8 @@ use net_tree::same_point;
 use std::alloc::Global;
 
 /// Whether a point is met.
-pub(crate) fn is_met(met: &[Point], point: Point) -> bool
-    ensures { result ≡ mets.is_met met.now point }
+pub(crate) fn is_on_path(met: &[Point], point: Point) -> bool
+    ensures { result ≡ mets.is_on_path met.now point }
 {
     for other in met {
         if same_point(point, *other) {
@@ -102,13 +102,13 @@ fn trace_back(alloc: Global, net: &Net, holds: &Holds) -> Result<Vec<Point>, Out
     let mut next = Some(net.out);
     let most = most_moves(net);
     for _turn in 0..most {
-        next = meet(net, holds, next, &mut points)?;
+        next = add_path_point(net, holds, next, &mut points)?;
     }
     Ok(points)
 }
 
 /// Adds a point that is met, and answers what comes before it.
-fn meet(
+fn add_path_point(
     net: &Net,
     holds: &Holds,
     now: Option<Point>,

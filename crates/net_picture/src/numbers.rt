@@ -15,7 +15,7 @@ pub(crate) fn plus(a: u64, b: u64) -> Result<u64, OutOfMemory>
 }
 
 /// This many units for each letter, and some more.
-pub(crate) fn room_for(each: u64, letters: usize, more: u64) -> Result<u64, OutOfMemory>
+pub(crate) fn width_for_letters(each: u64, letters: usize, more: u64) -> Result<u64, OutOfMemory>
     ensures { IfOk result (λ room. room ≡ each * letters + more) }
 {
     match each.checked_mul(letters as u64) {

@@ -73,8 +73,8 @@ impl Pen {
     }
 
     /// Where the next item's wire begins.
-    pub(crate) fn ready(self) -> Result<Pen, OutOfMemory>
-        ensures { IfOk result (λ pen. pen ≡ pens.ready self) }
+    pub(crate) fn next_wire_start(self) -> Result<Pen, OutOfMemory>
+        ensures { IfOk result (λ pen. pen ≡ pens.next_wire_start self) }
     {
         if self.is_full()? {
             self.next_line()

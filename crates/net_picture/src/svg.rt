@@ -13,7 +13,7 @@ use crate::shape::Shape;
 use crate::texts::{mux_title, register_title, short_mux, short_register, short_values};
 use ij_io::{Sink, StoreFault, Word, put_words};
 use net_graph::{Holds, Net};
-use net_list::selected_by;
+use net_list::muxes_selected_by;
 use net_tree::Tree;
 use std::alloc::Global;
 
@@ -131,7 +131,7 @@ fn put_register<K: Sink>(
         (AddsPart (K.taken k.old) (K.taken k.new) (svg.register_text net.now reg x y width active)) }
     ensures cause { HasCause (K.faults k.old) (K.faults k.new) result StoreFault.Failed }
 {
-    let muxes = selected_by(alloc, net, reg)?;
+    let muxes = muxes_selected_by(alloc, net, reg)?;
     let title = register_title(alloc, net, reg, muxes.as_slice())?;
     let label = short_register(alloc, net, reg)?;
     let it = BoxText {
@@ -358,7 +358,7 @@ fn put_size<K: Sink>(width: u64, height: u64, k: &mut K) -> Result<(), StoreFaul
 
 /// Writes the ground, and the names of the two ends.
 #[tactic(auto, unfolding(crate::specs::Svg::ends_text, ij_io::specs::Words::words_text))]
-fn put_ends<K: Sink>(x: u64, y: u64, k: &mut K) -> Result<(), StoreFault>
+fn put_ground_and_ends<K: Sink>(x: u64, y: u64, k: &mut K) -> Result<(), StoreFault>
     ensures whole { OnOk result (Adds (K.taken k.old) (K.taken k.new) (svg.ends_text x y)) }
     ensures part { OnErr result (AddsPart (K.taken k.old) (K.taken k.new) (svg.ends_text x y)) }
     ensures cause { HasCause (K.faults k.old) (K.faults k.new) result StoreFault.Failed }
@@ -393,7 +393,7 @@ fn put_drawing<K: Sink>(
 {
     put_size(view.width, view.height, k)?;
     put_style(k)?;
-    put_ends(view.x, view.y, k)?;
+    put_ground_and_ends(view.x, view.y, k)?;
     put_layer(alloc, net, false, shapes, k)?;
     put_layer(alloc, net, true, shapes, k)?;
     k.write(b"</svg>\n")?;

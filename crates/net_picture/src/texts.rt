@@ -1,7 +1,7 @@
 // Tooltips and short labels.
 ghost use Rattle.std.specs.Prelude.{◌≡◌, ◌<◌, ◌≤◌, length, All, IfOk, Ok};
 ghost use Rattle.net_graph.specs.Nets.{IsNet};
-ghost use Rattle.net_list.specs.Lines.{selected_by};
+ghost use Rattle.net_list.specs.Lines.{muxes_selected_by};
 ghost use Rattle.net_picture.specs.Labels as labels;
 ghost use Rattle.net_picture.specs.Svg as svg;
 
@@ -15,7 +15,7 @@ use path_names::put_mux_path;
 use std::alloc::Global;
 
 /// What was written, or want of memory.
-fn in_memory<T>(written: Result<T, StoreFault>) -> Result<T, OutOfMemory>
+fn or_out_of_memory<T>(written: Result<T, StoreFault>) -> Result<T, OutOfMemory>
     ensures { IfOk result (λ value. written ≡ Ok value) }
 {
     match written {
@@ -41,7 +41,7 @@ pub(crate) fn short_register(alloc: Global, net: &Net, reg: u32) -> Result<SureS
     ensures { IfOk result (λ text. text ≡ labels.short_register net.now reg) }
 {
     let text = register_label(alloc, net, reg)?;
-    in_memory(short(alloc, 19, text.bytes()))
+    or_out_of_memory(short(alloc, 19, text.bytes()))
 }
 
 /// What is beside a funnel.
@@ -51,7 +51,7 @@ pub(crate) fn short_mux(alloc: Global, net: &Net, mux: u32) -> Result<SureSink, 
     ensures { IfOk result (λ text. text ≡ labels.short_mux net.now mux) }
 {
     let text = mux_label(alloc, net, mux)?;
-    in_memory(short(alloc, 9, text.bytes()))
+    or_out_of_memory(short(alloc, 9, text.bytes()))
 }
 
 /// What is above the wire of a row.
@@ -65,7 +65,7 @@ pub(crate) fn short_values(
     ensures { IfOk result (λ text. text ≡ labels.short_values net.now mux row) }
 {
     let text = row_label(alloc, net, mux, row)?;
-    in_memory(short(alloc, 7, text.bytes()))
+    or_out_of_memory(short(alloc, 7, text.bytes()))
 }
 
 /// A register's tooltip.
@@ -78,7 +78,7 @@ fn register_title_of(
     requires well_formed { IsNet net.now }
     requires there { reg < length net.now.regs.items }
     requires listed { All (λ m. m < length net.now.muxes.items) muxes.now }
-    requires muxes { muxes.now ≡ selected_by net.now reg }
+    requires muxes { muxes.now ≡ muxes_selected_by net.now reg }
     ensures { IfOk result (λ text. text ≡ svg.register_title net.now reg) }
 {
     let mut text = SureSink::new(alloc);
@@ -101,10 +101,10 @@ pub(crate) fn register_title(
     requires well_formed { IsNet net.now }
     requires there { reg < length net.now.regs.items }
     requires listed { All (λ m. m < length net.now.muxes.items) muxes.now }
-    requires muxes { muxes.now ≡ selected_by net.now reg }
+    requires muxes { muxes.now ≡ muxes_selected_by net.now reg }
     ensures { IfOk result (λ text. text ≡ svg.register_title net.now reg) }
 {
-    in_memory(register_title_of(alloc, net, reg, muxes))
+    or_out_of_memory(register_title_of(alloc, net, reg, muxes))
 }
 
 /// A multiplexer's tooltip.
@@ -128,5 +128,5 @@ pub(crate) fn mux_title(alloc: Global, net: &Net, mux: u32) -> Result<SureSink, 
     requires there { mux < length net.now.muxes.items }
     ensures { IfOk result (λ text. text ≡ svg.mux_title net.now mux) }
 {
-    in_memory(mux_title_of(alloc, net, mux))
+    or_out_of_memory(mux_title_of(alloc, net, mux))
 }

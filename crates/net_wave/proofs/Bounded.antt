@@ -27,7 +27,8 @@ use Rattle.net_wave.specs.declared.var.WaveKind.{WaveKind}
 use Rattle.net_wave.specs.declared.var.WaveKind.TheVariants.{Pins, State, All as AllOf}
 use Rattle.net_wave.specs.Header.{shape}
 use Rattle.net_wave.specs.Values.{binary_length, drivers, output_width, word_width}
-use Rattle.net_wave.specs.Vars.{close_item, closing, depth, has_state, input_count, input_item, inst_item}
+use Rattle.net_wave.specs.Vars.{close_item, closing, depth, shows_chip_state, input_count, input_item}
+use Rattle.net_wave.specs.Vars.{inst_item}
 use Rattle.net_wave.specs.Vars.{inst_items, inst_node, insts_in, items, mux_item, mux_items, mux_node}
 use Rattle.net_wave.specs.Vars.{muxes_in, node_items, opening, output_count, output_item, pin_items}
 use Rattle.net_wave.specs.Vars.{register_item, register_items, register_node, registers_in, up_to, vars}
@@ -198,12 +199,12 @@ module _ (net : Net) (models : List SeenModel) (is : IsNet net) (are : All IsMod
   pub vars_few : (kind : WaveKind) → length (vars kind net models) < 2 ^ 32
   vars_few kind =
       let nodes = up_to (node_items kind net models) (length net.nodes.items) in
-      let rest = cond (has_state kind) nodes (Close ∷ []) in
+      let rest = cond (shows_chip_state kind) nodes (Close ∷ []) in
       omega (
         arith,
         vars_short (items kind net models),
         length-append pin_items rest,
-        either_short (has_state
+        either_short (shows_chip_state
             kind) nodes (Close ∷ []) (8192 * 34371) (omega (
               arith,
               up_to_short (node_items kind net models)

@@ -31,7 +31,7 @@ use Rattle.net_wave.specs.declared.var.WaveKind.TheVariants.{Pins, State, All as
 use Rattle.net_wave.specs.Files.{FreeNamesAreWords, IsWord}
 use Rattle.net_wave.specs.Header.{scope_name, var_name}
 use Rattle.net_wave.specs.Names.{NamedWithout, NamesWithout, Without}
-use Rattle.net_wave.specs.Vars.{has_state, items}
+use Rattle.net_wave.specs.Vars.{shows_chip_state, items}
 
 all_map : {X Y : Type 0} (P : Y → Type 0) (f : X → Y) (xs : List X) → All (λ x. P (f x)) xs → All P (map f xs)
 all_map P f [] h = All-nil P
@@ -164,7 +164,7 @@ module _ (b : ℕ) (out : in_name b ≡ false) where
     names_without kind net models top is free =
         record { outermost = word_without top free.outermost; others = others kind free }
       where
-        shown : (kind : WaveKind) → has_state kind ≡ true → FreeNamesAreWords kind net models top
+        shown : (kind : WaveKind) → shows_chip_state kind ≡ true → FreeNamesAreWords kind net models top
             → All (NamedWithout b net models) (items kind net models)
         shown kind e free =
             every (NamedWithout b net models) (item_without net is models (words_without (λ (inst : Inst).

@@ -9,7 +9,8 @@ use Rattle.net_wave.specs.declared.var.Var.{Var}
 use Rattle.net_wave.specs.declared.var.Var.TheVariants.{Tms, Tdi, Tdo, Expect, Differs, Tap, Instruction}
 use Rattle.net_wave.specs.declared.var.Var.TheVariants.{Scan, Bit, Update, Shift, OnPath, Row, Input, Output}
 use Rattle.net_wave.specs.declared.var.Var.TheVariants.{Word}
-use Rattle.net_wave.specs.Changes.{Stay, is_idle, is_shift, may_change, runs, shifts_in, updates}
+use Rattle.net_wave.specs.Changes.{Stay, is_idle, is_shift, may_change, has_instrument_event}
+use Rattle.net_wave.specs.Changes.{changes_shift_stages, changes_update_stages}
 use Rattle.net_wave.specs.Header.{is_pin}
 
 same_place : (vars : List Var) (k : ℕ) (d e : Var) → k < length vars → get_or vars k d ≡ get_or vars k e
@@ -45,8 +46,8 @@ first true y e = absurd (cc)
 first false y e = refl
 
 -- a variable of the chip
-quiet : (b n : Shown) (v : Var) → is_pin v ≡ false → runs b.tap n.tap ≡ false
-    → (is_shift v ≡ true → shifts_in b.tap ≡ false) → may_change b n v ≡ false
+quiet : (b n : Shown) (v : Var) → is_pin v ≡ false → has_instrument_event b.tap n.tap ≡ false
+    → (is_shift v ≡ true → changes_shift_stages b.tap ≡ false) → may_change b n v ≡ false
 quiet b n Tms pin run shift = absurd (cc)
 quiet b n Tdi pin run shift = absurd (cc)
 quiet b n Tdo pin run shift = absurd (cc)
@@ -56,10 +57,10 @@ quiet b n Tap pin run shift = absurd (cc)
 quiet b n Instruction pin run shift = absurd (cc)
 quiet b n Scan pin run shift = absurd (cc)
 quiet b n Bit pin run shift = absurd (cc)
-quiet b n (Update r) pin run shift = first (updates n.tap) (is_idle b.tap && is_idle n.tap) run
+quiet b n (Update r) pin run shift = first (changes_update_stages n.tap) (is_idle b.tap && is_idle n.tap) run
 quiet b n (Shift r) pin run shift = shift refl
-quiet b n (OnPath r) pin run shift = first (updates n.tap) (is_idle b.tap && is_idle n.tap) run
-quiet b n (Row m) pin run shift = first (updates n.tap) (is_idle b.tap && is_idle n.tap) run
+quiet b n (OnPath r) pin run shift = first (changes_update_stages n.tap) (is_idle b.tap && is_idle n.tap) run
+quiet b n (Row m) pin run shift = first (changes_update_stages n.tap) (is_idle b.tap && is_idle n.tap) run
 quiet b n (Input i p) pin run shift = run
 quiet b n (Output i p) pin run shift = run
 quiet b n (Word i w) pin run shift = run
@@ -81,8 +82,8 @@ no_shift_at (v ∷ vs) k none h = cases k (is_shift v) refl none h (no_shift_at 
 -- where there are no shift stages, or none changes
 pub all_quiet : (vars : List Var) (pins : ℕ) (shifts : Bool) (b n : Shown)
     → ((k : ℕ) → pins ≤ k → k < length vars → is_pin (get_or vars k Tms) ≡ false)
-    → (shifts ≡ false → list_any is_shift vars ≡ false) → runs b.tap n.tap ≡ false
-    → (shifts && shifts_in b.tap) ≡ false → Stay b n vars pins
+    → (shifts ≡ false → list_any is_shift vars ≡ false) → has_instrument_event b.tap n.tap ≡ false
+    → (shifts && changes_shift_stages b.tap) ≡ false → Stay b n vars pins
 all_quiet vars pins true b n pin none run shift =
     λ k l m. quiet b n (get_or vars k Tms) (pin k l m) run (λ e. shift)
 all_quiet vars pins false b n pin none run shift =

@@ -21,7 +21,8 @@ use Rattle.net_wave.specs.declared.var.WaveKind.TheVariants.{Pins, State, All as
 use Rattle.net_wave.specs.Header.{mux_name, node_name, register_name, scope_name}
 use Rattle.net_wave.specs.Laws.{scopes_from}
 use Rattle.net_wave.specs.Scopes.{IsPreorder, ScopesArePaths, inside, node_scopes, path_at, scopes_of}
-use Rattle.net_wave.specs.Vars.{close_item, closing, depth, has_state, input_count, input_item, inst_item}
+use Rattle.net_wave.specs.Vars.{close_item, closing, depth, shows_chip_state, input_count, input_item}
+use Rattle.net_wave.specs.Vars.{inst_item}
 use Rattle.net_wave.specs.Vars.{inst_items, inst_node, insts_in, mux_item, mux_items, mux_node, muxes_in}
 use Rattle.net_wave.specs.Vars.{node_items, opening, output_count, output_item, pin_items, register_item}
 use Rattle.net_wave.specs.Vars.{register_items, register_node, registers_in, up_to, vars_of, word_count}
@@ -299,6 +300,6 @@ module _ (net : Net) (top : List ℕ) where
 
 pub scopes_are_paths : ScopesArePaths
 scopes_are_paths kind net models top is pre =
-    all_found net top (has_state kind) (up_to (node_items kind net models) (length net.nodes.items))
+    all_found net top (shows_chip_state kind) (up_to (node_items kind net models) (length net.nodes.items))
     (open_at net top (length net.nodes.items))
     (nodes_lead net top kind models is pre (length net.nodes.items) (omega arith))

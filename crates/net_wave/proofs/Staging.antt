@@ -15,7 +15,8 @@ use Rattle.net_graph.proofs.Chains.{chain-put_chain, put_chain-chain}
 use Rattle.net_graph.proofs.Routes.{route_in}
 use Rattle.net_graph.proofs.Shapes.{length-captures, length-chain, put_chain-shape, total}
 use Rattle.net_bench.proofs.Wide.{captures_wide}
-use Rattle.net_bench.specs.Bench.{Chip, State, act, capture_bits, clock, dr_bits, enter, fault_free, put_dr}
+use Rattle.net_bench.specs.Bench.{Chip, State, begin_clock, capture_bits, clock, dr_bits, end_clock}
+use Rattle.net_bench.specs.Bench.{fault_free, put_dr}
 use Rattle.net_bench.specs.Bench.{run_from, select_of, update_dr}
 use Rattle.net_bench.specs.Instruction.{Selected, Network, Identity, Bypass}
 use Rattle.tap_machine.specs.declared.TapState.{TapState}
@@ -23,7 +24,7 @@ use Rattle.tap_machine.specs.declared.TapState.TheVariants.{TestLogicReset, RunT
 use Rattle.tap_machine.specs.declared.TapState.TheVariants.{UpdateDr, UpdateIr}
 use Rattle.tap_machine.specs.Tap.{next}
 use Rattle.std.specs.Prelude.{◌&&◌}
-use Rattle.net_wave.specs.Changes.{shifts_in}
+use Rattle.net_wave.specs.Changes.{changes_shift_stages}
 
 length_shift : (bits : List Bool) (tdi : Bool) → length (shift bits tdi) ≡ length bits
 length_shift [] tdi = refl
@@ -85,7 +86,8 @@ module _ (net : Net) (device : Device) (machines : List Machine) (is : IsNet net
   run_stages RunTestIdle s = refl
   run_stages _ s = refl
 
-  enter_stages : (before after : TapState) (s : State Counts) → (enter chip before after s).stages ≡ s.stages
+  enter_stages : (before after : TapState) (s : State Counts) → (end_clock chip before after s).stages ≡
+      s.stages
   enter_stages before UpdateIr s = refl
   enter_stages before UpdateDr s = update_stages (select_of chip s) s
   enter_stages before TestLogicReset s = refl
@@ -93,12 +95,15 @@ module _ (net : Net) (device : Device) (machines : List Machine) (is : IsNet net
   enter_stages before _ s = refl
 
   abbrev after : TapState → Bool → Bool → State Counts → State Counts
-  after tap tms tdi s = enter chip tap (next tap tms) (record (act chip tap tdi s) { tap = next tap tms })
+  after tap tms tdi s = end_clock chip tap (next tap tms) (record (begin_clock chip tap tdi s) {
+    tap = next
+        tap tms;
+  })
 
   -- after a clock: the shape of the stages, and that they are the old ones with those of the path
   abbrev Keeps : TapState → State Counts → State Counts → Type 0
   Keeps tap s t =
-      AreHolds net t.stages × (cond (shifts_in tap) (put_chain (route_of net t.holds)
+      AreHolds net t.stages × (cond (changes_shift_stages tap) (put_chain (route_of net t.holds)
       (chain (route_of net t.holds) t.stages) s.stages) s.stages ≡ t.stages)
 
   shifting : (s t : State Counts) → t.holds ≡ s.holds
@@ -130,7 +135,7 @@ module _ (net : Net) (device : Device) (machines : List Machine) (is : IsNet net
       (shift (dr_bits chip (select_of chip s) s) tdi) s) (shifted s h (select_of chip s) tdi)
   keeps tap tms tdi s h =
       resting s (after tap tms tdi s) h
-      (enter_stages tap (next tap tms) (record (act chip tap tdi s) { tap = next tap tms }))
+      (enter_stages tap (next tap tms) (record (begin_clock chip tap tdi s) { tap = next tap tms }))
 
   pub clock_keeps : (tms tdi : Bool) (s t : State Counts) → t ≡ clock chip tms tdi s
       → AreHolds net s.stages → Keeps s.tap s t
@@ -139,7 +144,8 @@ module _ (net : Net) (device : Device) (machines : List Machine) (is : IsNet net
 
   -- the stages that are kept beside the bench are its own
   pub stepped : (tms tdi : Bool) (s t : State Counts) (b : Net) (k : Bool) (old new : Holds)
-      → t ≡ clock chip tms tdi s → b ≡ net → k ≡ shifts_in s.tap → old ≡ s.stages → AreHolds net old
+      → t ≡ clock chip tms tdi s → b ≡ net → k ≡ changes_shift_stages s.tap → old ≡ s.stages → AreHolds net
+      old
       → new ≡ cond k (put_chain (route_of b t.holds) (chain (route_of b t.holds) t.stages) old) old
       → AreHolds net new × (new ≡ t.stages)
   stepped tms tdi s t b k old new e n shifts same h is =
@@ -150,14 +156,14 @@ module _ (net : Net) (device : Device) (machines : List Machine) (is : IsNet net
       (put_chain (route_of x t.holds) (chain (route_of x t.holds) t.stages) old) old) n
       ∙ ap (λ (x : Bool). cond x
       (put_chain (route_of net t.holds) (chain (route_of net t.holds) t.stages) old) old) shifts
-      ∙ ap (λ (x : Holds). cond (shifts_in s.tap)
+      ∙ ap (λ (x : Holds). cond (changes_shift_stages s.tap)
       (put_chain (route_of net t.holds) (chain (route_of net t.holds) t.stages) x) x) same
       ∙ kept.1 in
       (subst (λ (x : Holds). AreHolds net x) (sym all) kept.0, all)
 
   -- the same where they are kept at all
   pub kept_beside : (tms tdi : Bool) (s t : State Counts) (b : Net) (kept k : Bool) (old new : Holds)
-      → t ≡ clock chip tms tdi s → b ≡ net → k ≡ shifts_in s.tap
+      → t ≡ clock chip tms tdi s → b ≡ net → k ≡ changes_shift_stages s.tap
       → (kept ≡ true → old ≡ s.stages) → AreHolds net old
       → new ≡ cond (kept && k) (put_chain (route_of b t.holds) (chain (route_of b t.holds) t.stages) old) old
       → AreHolds net new × (kept ≡ true → new ≡ t.stages)

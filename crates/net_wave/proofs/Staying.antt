@@ -9,7 +9,8 @@ use Rattle.instruments.specs.declared.Counts.{Counts}
 use Rattle.instruments.specs.OnNetwork.{Running}
 use Rattle.instruments.specs.Seen.{SeenModel}
 use Rattle.net_graph.specs.Signals.{Holds}
-use Rattle.net_bench.specs.Bench.{Chip, State, act, capture_bits, clock, dr_bits, enter, put_dr, run_from}
+use Rattle.net_bench.specs.Bench.{Chip, State, begin_clock, capture_bits, clock, dr_bits, end_clock, put_dr}
+use Rattle.net_bench.specs.Bench.{run_from}
 use Rattle.net_bench.specs.Bench.{select_of, tdo, update_dr}
 use Rattle.net_bench.specs.Instruction.{Selected, Network, Identity, Bypass}
 use Rattle.net_graph.specs.Chain.{shift}
@@ -24,7 +25,8 @@ use Rattle.net_wave.specs.declared.var.Var.{Var}
 use Rattle.net_wave.specs.declared.var.Var.TheVariants.{Tms, Tdi, Tdo, Expect, Differs, Tap, Instruction}
 use Rattle.net_wave.specs.declared.var.Var.TheVariants.{Scan, Bit, Update, Shift, OnPath, Row, Input, Output}
 use Rattle.net_wave.specs.declared.var.Var.TheVariants.{Word}
-use Rattle.net_wave.specs.Changes.{WasTold, is_idle, loads, may_change, runs, shifts_in, shown_at, updates}
+use Rattle.net_wave.specs.Changes.{WasTold, is_idle, changes_instruction, may_change, has_instrument_event}
+use Rattle.net_wave.specs.Changes.{changes_shift_stages, shown_at, changes_update_stages}
 use Rattle.net_wave.specs.Values.{differs, expect_digit, number_digits, tap_code, value, values}
 
 -- ---- tests that find nothing new
@@ -68,29 +70,29 @@ module _ (chip : Chip Counts) where
   put_insts Identity bits s = refl
   put_insts Bypass bits s = refl
 
-  act_holds : (tap : TapState) (tdi : Bool) (s : State Counts) → (act chip tap tdi s).holds ≡ s.holds
+  act_holds : (tap : TapState) (tdi : Bool) (s : State Counts) → (begin_clock chip tap tdi s).holds ≡ s.holds
   act_holds CaptureDr tdi s = put_holds (select_of chip s) (capture_bits chip (select_of chip s) s) s
   act_holds ShiftDr tdi s = put_holds (select_of chip s) (shift (dr_bits chip (select_of chip s) s) tdi) s
   act_holds CaptureIr tdi s = refl
   act_holds ShiftIr tdi s = refl
   act_holds _ tdi s = refl
 
-  act_ir : (tap : TapState) (tdi : Bool) (s : State Counts) → (act chip tap tdi s).ir_hold ≡ s.ir_hold
+  act_ir : (tap : TapState) (tdi : Bool) (s : State Counts) → (begin_clock chip tap tdi s).ir_hold ≡ s.ir_hold
   act_ir CaptureDr tdi s = put_ir (select_of chip s) (capture_bits chip (select_of chip s) s) s
   act_ir ShiftDr tdi s = put_ir (select_of chip s) (shift (dr_bits chip (select_of chip s) s) tdi) s
   act_ir CaptureIr tdi s = refl
   act_ir ShiftIr tdi s = refl
   act_ir _ tdi s = refl
 
-  act_insts : (tap : TapState) (tdi : Bool) (s : State Counts) → (act chip tap tdi s).insts ≡ s.insts
+  act_insts : (tap : TapState) (tdi : Bool) (s : State Counts) → (begin_clock chip tap tdi s).insts ≡ s.insts
   act_insts CaptureDr tdi s = put_insts (select_of chip s) (capture_bits chip (select_of chip s) s) s
   act_insts ShiftDr tdi s = put_insts (select_of chip s) (shift (dr_bits chip (select_of chip s) s) tdi) s
   act_insts CaptureIr tdi s = refl
   act_insts ShiftIr tdi s = refl
   act_insts _ tdi s = refl
 
-  act_stages : (tap : TapState) (tdi : Bool) (s : State Counts) → shifts_in tap ≡ false
-      → (act chip tap tdi s).stages ≡ s.stages
+  act_stages : (tap : TapState) (tdi : Bool) (s : State Counts) → changes_shift_stages tap ≡ false
+      → (begin_clock chip tap tdi s).stages ≡ s.stages
   act_stages CaptureDr tdi s e = absurd (cc)
   act_stages ShiftDr tdi s e = absurd (cc)
   act_stages CaptureIr tdi s e = refl
@@ -133,30 +135,31 @@ module _ (chip : Chip Counts) where
   run_insts RunTestIdle s e = absurd (cc)
   run_insts _ s e = refl
 
-  enter_tap : (before after : TapState) (s : State Counts) → (enter chip before after s).tap ≡ s.tap
+  enter_tap : (before after : TapState) (s : State Counts) → (end_clock chip before after s).tap ≡ s.tap
   enter_tap before UpdateIr s = refl
   enter_tap before UpdateDr s = update_tap (select_of chip s) s
   enter_tap before TestLogicReset s = refl
   enter_tap before RunTestIdle s = run_tap before s
   enter_tap before _ s = refl
 
-  enter_holds : (before after : TapState) (s : State Counts) → updates after ≡ false
-      → (enter chip before after s).holds ≡ s.holds
+  enter_holds : (before after : TapState) (s : State Counts) → changes_update_stages after ≡ false
+      → (end_clock chip before after s).holds ≡ s.holds
   enter_holds before UpdateIr s e = refl
   enter_holds before UpdateDr s e = absurd (cc)
   enter_holds before TestLogicReset s e = absurd (cc)
   enter_holds before RunTestIdle s e = run_holds before s
   enter_holds before _ s e = refl
 
-  enter_ir : (before after : TapState) (s : State Counts) → loads after ≡ false
-      → (enter chip before after s).ir_hold ≡ s.ir_hold
+  enter_ir : (before after : TapState) (s : State Counts) → changes_instruction after ≡ false
+      → (end_clock chip before after s).ir_hold ≡ s.ir_hold
   enter_ir before UpdateIr s e = absurd (cc)
   enter_ir before UpdateDr s e = update_ir (select_of chip s) s
   enter_ir before TestLogicReset s e = absurd (cc)
   enter_ir before RunTestIdle s e = run_ir before s
   enter_ir before _ s e = refl
 
-  enter_stages : (before after : TapState) (s : State Counts) → (enter chip before after s).stages ≡ s.stages
+  enter_stages : (before after : TapState) (s : State Counts) → (end_clock chip before after s).stages ≡
+      s.stages
   enter_stages before UpdateIr s = refl
   enter_stages before UpdateDr s = update_stages (select_of chip s) s
   enter_stages before TestLogicReset s = refl
@@ -169,8 +172,8 @@ module _ (chip : Chip Counts) where
   idle_insts RunTestIdle s e = absurd (cc)
   idle_insts _ s e = refl
 
-  enter_insts : (before after : TapState) (s : State Counts) → runs before after ≡ false
-      → (enter chip before after s).insts ≡ s.insts
+  enter_insts : (before after : TapState) (s : State Counts) → has_instrument_event before after ≡ false
+      → (end_clock chip before after s).insts ≡ s.insts
   enter_insts before UpdateIr s e = refl
   enter_insts before UpdateDr s e = absurd (cc)
   enter_insts before TestLogicReset s e = absurd (cc)
@@ -182,27 +185,28 @@ module _ (chip : Chip Counts) where
     t = clock chip tms tdi s
 
     abbrev mid : State Counts
-    mid = record (act chip s.tap tdi s) { tap = next s.tap tms }
+    mid = record (begin_clock chip s.tap tdi s) { tap = next s.tap tms }
 
     tap_is : t.tap ≡ next s.tap tms
     unfolding clock
     tap_is = enter_tap s.tap (next s.tap tms) mid
 
-    pub holds_stay : updates t.tap ≡ false → t.holds ≡ s.holds
+    pub holds_stay : changes_update_stages t.tap ≡ false → t.holds ≡ s.holds
     unfolding clock
     holds_stay e = enter_holds s.tap (next s.tap tms) mid
-        (sym (ap updates tap_is) ∙ e) ∙ act_holds s.tap tdi s
+        (sym (ap changes_update_stages tap_is) ∙ e) ∙ act_holds s.tap tdi s
 
-    pub ir_stays : loads t.tap ≡ false → t.ir_hold ≡ s.ir_hold
+    pub ir_stays : changes_instruction t.tap ≡ false → t.ir_hold ≡ s.ir_hold
     unfolding clock
-    ir_stays e = enter_ir s.tap (next s.tap tms) mid (sym (ap loads tap_is) ∙ e) ∙ act_ir s.tap tdi s
+    ir_stays e = enter_ir s.tap (next s.tap tms) mid (sym (ap changes_instruction tap_is) ∙ e) ∙ act_ir
+        s.tap tdi s
 
-    pub insts_stay : runs s.tap t.tap ≡ false → t.insts ≡ s.insts
+    pub insts_stay : has_instrument_event s.tap t.tap ≡ false → t.insts ≡ s.insts
     unfolding clock
     insts_stay e = enter_insts s.tap (next s.tap tms) mid
-        (sym (ap (runs s.tap) tap_is) ∙ e) ∙ act_insts s.tap tdi s
+        (sym (ap (has_instrument_event s.tap) tap_is) ∙ e) ∙ act_insts s.tap tdi s
 
-    pub stages_stay : shifts_in s.tap ≡ false → t.stages ≡ s.stages
+    pub stages_stay : changes_shift_stages s.tap ≡ false → t.stages ≡ s.stages
     unfolding clock
     stages_stay e = enter_stages s.tap (next s.tap tms) mid ∙ act_stages s.tap tdi s e
 
@@ -238,7 +242,7 @@ module _ (chip : Chip Counts) where
         ap (λ (h : Holds). value chip models (Row m) q (record s { holds = h })) (holds_stay q.tms q.tdi s e)
     value_stays (Input i n) e =
         ap (λ (h : Holds). value chip models (Input i n) q (record after { holds = h })) (holds_stay q.tms
-        q.tdi s (either_false (updates after.tap) (is_idle s.tap && is_idle after.tap) e))
+        q.tdi s (either_false (changes_update_stages after.tap) (is_idle s.tap && is_idle after.tap) e))
         ∙ ap (λ (x : List (Running Counts)). value chip models (Input i n) q (record s { insts = x }))
         (insts_stay q.tms q.tdi s e)
     value_stays (Output i n) e = ap (λ (x : List (Running Counts)). value chip models (Output i n) q

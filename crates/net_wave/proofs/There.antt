@@ -14,7 +14,8 @@ use Rattle.net_wave.specs.declared.var.Var.TheVariants.{Tms, Tdi, Tdo, Expect, D
 use Rattle.net_wave.specs.declared.var.Var.TheVariants.{Scan, Bit, Update, Shift, OnPath, Row, Input, Output}
 use Rattle.net_wave.specs.declared.var.Var.TheVariants.{Word}
 use Rattle.net_wave.specs.declared.var.WaveKind.{WaveKind}
-use Rattle.net_wave.specs.Vars.{IsItem, IsVar, close_item, closing, declared_by, depth, has_shift, has_state}
+use Rattle.net_wave.specs.Vars.{IsItem, IsVar, close_item, closing, declared_by, depth, shows_shift_stages}
+use Rattle.net_wave.specs.Vars.{shows_chip_state}
 use Rattle.net_wave.specs.Vars.{input_count, input_item, inst_item, inst_items, inst_node, insts_in, items}
 use Rattle.net_wave.specs.Vars.{mux_item, mux_items, mux_node, muxes_in, node_items, opening, output_count}
 use Rattle.net_wave.specs.Vars.{output_item, pin_items, register_item, register_items, register_node}
@@ -58,11 +59,12 @@ module _ (net : Net) (models : List SeenModel) where
   register_there : (kind : WaveKind) (r : ℕ) → r < length net.regs.items → All Is (register_items kind r)
   register_there kind r h =
       All-cons Is (Open (Register r)) (Declare (Update r)
-      ∷ (cond (has_shift kind) (Declare (Shift r) ∷ []) [] ++ Declare (OnPath r) ∷ Close ∷ [])) h
+      ∷ (cond (shows_shift_stages kind) (Declare (Shift r) ∷ []) [] ++ Declare (OnPath r) ∷ Close ∷ [])) h
       (All-cons Is (Declare (Update r))
-      (cond (has_shift kind) (Declare (Shift r) ∷ []) [] ++ Declare (OnPath r) ∷ Close ∷ []) h
-      (All-append Is (cond (has_shift kind) (Declare (Shift r) ∷ []) []) (Declare (OnPath r) ∷ Close ∷ [])
-      (all_if Is (has_shift kind) (Declare (Shift r) ∷ []) (one (Declare (Shift r)) h))
+      (cond (shows_shift_stages kind) (Declare (Shift r) ∷ []) [] ++ Declare (OnPath r) ∷ Close ∷ []) h
+      (All-append Is (cond (shows_shift_stages kind) (Declare (Shift r) ∷ []) []) (Declare (OnPath r) ∷
+      Close ∷ [])
+      (all_if Is (shows_shift_stages kind) (Declare (Shift r) ∷ []) (one (Declare (Shift r)) h))
       (All-cons Is (Declare (OnPath r)) (Close ∷ []) h (one Close tt))))
 
   mux_there : (m : ℕ) → m < length net.muxes.items → All Is (mux_items m)
@@ -103,13 +105,13 @@ module _ (net : Net) (models : List SeenModel) where
 
   -- those after the pins
   abbrev pub later_items : WaveKind → List Item
-  later_items kind = cond (has_state kind)
+  later_items kind = cond (shows_chip_state kind)
       (up_to (node_items kind net models) (length net.nodes.items)) (Close ∷ [])
 
   pub later_there : (kind : WaveKind) → length models ≡ length net.insts.items → All Is (later_items kind)
   later_there kind same =
       let nodes = up_to (node_items kind net models) (length net.nodes.items) in
-      either Is (has_state kind) nodes (Close ∷ []) (all_up_to Is (node_items kind net models)
+      either Is (shows_chip_state kind) nodes (Close ∷ []) (all_up_to Is (node_items kind net models)
       (length net.nodes.items) (λ k l. node_there kind k same l)) (one Close tt)
 
   pub items_there : (kind : WaveKind)

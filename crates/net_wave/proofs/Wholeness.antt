@@ -22,7 +22,8 @@ use Rattle.net_wave.specs.declared.var.Var.TheVariants.{Scan, Bit, Update, Shift
 use Rattle.net_wave.specs.declared.var.Var.TheVariants.{Word}
 use Rattle.net_wave.specs.declared.var.WaveKind.{WaveKind}
 use Rattle.net_wave.specs.declared.var.WaveKind.TheVariants.{Pins, State, All as AllOf}
-use Rattle.net_wave.specs.Vars.{IsVar, close_item, closing, depth, has_shift, has_state, input_count}
+use Rattle.net_wave.specs.Vars.{IsVar, close_item, closing, depth, shows_shift_stages, shows_chip_state}
+use Rattle.net_wave.specs.Vars.{input_count}
 use Rattle.net_wave.specs.Vars.{input_item, inst_items, inst_node, insts_in, mux_items, mux_node, muxes_in}
 use Rattle.net_wave.specs.Vars.{node_items, opening, output_count, output_item, pin_items, register_items}
 use Rattle.net_wave.specs.Vars.{register_node, registers_in, up_to, vars, word_count, word_item}
@@ -238,15 +239,15 @@ module _ (kind : WaveKind) (net : Net) (models : List SeenModel) (is : IsNet net
   -- ---- of the whole
 
   abbrev rest : List Item
-  rest = cond (has_state kind) nodes (Close ∷ [])
+  rest = cond (shows_chip_state kind) nodes (Close ∷ [])
 
   total : times v (vars kind net models) ≡ seen v pin_items + seen v rest
   total = seen_both v pin_items rest
 
-  rest_is : has_state kind ≡ true → seen v rest ≡ seen v nodes
+  rest_is : shows_chip_state kind ≡ true → seen v rest ≡ seen v nodes
   rest_is e = ap (λ (b : Bool). seen v (cond b nodes (Close ∷ []))) e
 
-  rest_none : has_state kind ≡ false → seen v rest ≡ 0
+  rest_none : shows_chip_state kind ≡ false → seen v rest ≡ 0
   rest_none e = ap (λ (b : Bool). seen v (cond b nodes (Close ∷ []))) e
 
   abbrev Decided : Type 0
@@ -255,12 +256,12 @@ module _ (kind : WaveKind) (net : Net) (models : List SeenModel) (is : IsNet net
       ⊎ ((is_asked kind v ≡ true → IsVar net models v → ⊥) × (times v (vars kind net models) ≡ 0))
 
   -- a variable that isn't a pin, by whether it names something
-  of_chip : seen v pin_items ≡ 0 → is_asked kind v ≡ has_state kind
+  of_chip : seen v pin_items ≡ 0 → is_asked kind v ≡ shows_chip_state kind
       → IsVar net models v ⊎ (IsVar net models v → ⊥) → (IsVar net models v → seen v nodes ≡ 1)
       → ((IsVar net models v → ⊥) → seen v nodes ≡ 0) → Decided
-  of_chip pins asked is_var one never = cases (has_state kind) refl is_var
+  of_chip pins asked is_var one never = cases (shows_chip_state kind) refl is_var
     where
-      cases : (b : Bool) → has_state kind ≡ b → IsVar net models v ⊎ (IsVar net models v → ⊥) → Decided
+      cases : (b : Bool) → shows_chip_state kind ≡ b → IsVar net models v ⊎ (IsVar net models v → ⊥) → Decided
       cases true e (inl h) = inl (asked ∙ e, h, total ∙ omega (arith, pins, rest_is e, one h))
       cases true e (inr h) = inr (λ a i. h i, total ∙ omega (arith, pins, rest_is e, never h))
       cases false e either = inr (
@@ -270,9 +271,9 @@ module _ (kind : WaveKind) (net : Net) (models : List SeenModel) (is : IsNet net
 
   of_pin : seen v pin_items ≡ 1 → is_asked kind v ≡ true
       → IsVar net models v → NoInst → NoRegister → NoMux → Decided
-  of_pin pins asked is_var a b c = cases (has_state kind) refl
+  of_pin pins asked is_var a b c = cases (shows_chip_state kind) refl
     where
-      cases : (x : Bool) → has_state kind ≡ x → Decided
+      cases : (x : Bool) → shows_chip_state kind ≡ x → Decided
       cases true e = inl (asked, is_var, total ∙ omega (arith, pins, rest_is e, none a b c))
       cases false e = inl (asked, is_var, total ∙ omega (arith, pins, rest_none e))
 
@@ -281,10 +282,10 @@ module _ (kind : WaveKind) (net : Net) (models : List SeenModel) (is : IsNet net
   of_none pins asked a b c =
       inr (
         λ x i. absurd (let wrong : true ≡ false = sym x ∙ asked in cc),
-        total ∙ cases (has_state kind) refl,
+        total ∙ cases (shows_chip_state kind) refl,
       )
     where
-      cases : (x : Bool) → has_state kind ≡ x → seen v pin_items + seen v rest ≡ 0
+      cases : (x : Bool) → shows_chip_state kind ≡ x → seen v pin_items + seen v rest ≡ 0
       cases true e = omega (arith, pins, rest_is e, none a b c)
       cases false e = omega (arith, pins, rest_none e)
 
@@ -299,7 +300,7 @@ module _ (kind : WaveKind) (net : Net) (models : List SeenModel) (is : IsNet net
   update_of AllOf r i = omega arith
 
   shift_of : (kind : WaveKind) (r i : ℕ)
-      → seen (Shift r) (register_items kind i) ≡ cond (has_shift kind && (r == i)) 1 0
+      → seen (Shift r) (register_items kind i) ≡ cond (shows_shift_stages kind && (r == i)) 1 0
   shift_of Pins r i = refl
   shift_of State r i = refl
   shift_of AllOf r i = omega arith
@@ -332,7 +333,7 @@ module _ (kind : WaveKind) (net : Net) (models : List SeenModel) (is : IsNet net
   abbrev Settled : Var → Type 0
   Settled v = Decided kind net models is v
 
-  by_register : (v : Var) (r : ℕ) → seen v pin_items ≡ 0 → is_asked kind v ≡ has_state kind
+  by_register : (v : Var) (r : ℕ) → seen v pin_items ≡ 0 → is_asked kind v ≡ shows_chip_state kind
       → (IsVar net models v → r < length net.regs.items) → (r < length net.regs.items → IsVar net models v)
       → ((i : ℕ) → seen v (register_items kind i) ≡ cond (r == i) 1 0) → NoPort v
       → ((m : ℕ) → seen v (mux_items m) ≡ 0) → Settled v
@@ -367,7 +368,7 @@ module _ (kind : WaveKind) (net : Net) (models : List SeenModel) (is : IsNet net
   by_pin v pins asked there regs ports muxes =
       of_pin kind net models is v pins asked there (no_port v ports) (λ i l. regs i) (λ m l. muxes m)
 
-  by_mux : (v : Var) (m : ℕ) → seen v pin_items ≡ 0 → is_asked kind v ≡ has_state kind
+  by_mux : (v : Var) (m : ℕ) → seen v pin_items ≡ 0 → is_asked kind v ≡ shows_chip_state kind
       → (IsVar net models v → m < length net.muxes.items) → (m < length net.muxes.items → IsVar net models v)
       → ((j : ℕ) → seen v (mux_items j) ≡ cond (m == j) 1 0) → NoPort v
       → ((i : ℕ) → seen v (register_items kind i) ≡ 0) → Settled v
@@ -381,7 +382,7 @@ module _ (kind : WaveKind) (net : Net) (models : List SeenModel) (is : IsNet net
 
   -- a port or word of an instrument
   by_port : (v : Var) (i p : ℕ) (item : ℕ → ℕ → List Item) (count : ℕ → ℕ)
-      → seen v pin_items ≡ 0 → is_asked kind v ≡ has_state kind
+      → seen v pin_items ≡ 0 → is_asked kind v ≡ shows_chip_state kind
       → (IsVar net models v → (i < length net.insts.items) × (p < count i))
       → ((i < length net.insts.items) → (p < count i) → IsVar net models v)
       → ((j : ℕ) → seen v (inst_items net models j) ≡ seen v (up_to (item j) (count j)))
@@ -415,18 +416,18 @@ module _ (kind : WaveKind) (net : Net) (models : List SeenModel) (is : IsNet net
           let differ : j ≡ i → ⊥ = λ d. grind (arith, nat_tests) in
           none_to v (item j) (count j) (λ q m. one j q ∙ first_other i j p q differ)
 
-  state_too : (k : WaveKind) → has_shift k ≡ true → has_state k ≡ true
+  state_too : (k : WaveKind) → shows_shift_stages k ≡ true → shows_chip_state k ≡ true
   state_too Pins e = absurd (cc)
   state_too State e = refl
   state_too AllOf e = refl
 
-  shift_by : (r i : ℕ) (b : Bool) → has_shift kind ≡ b
+  shift_by : (r i : ℕ) (b : Bool) → shows_shift_stages kind ≡ b
       → seen (Shift r) (register_items kind i) ≡ cond (b && (r == i)) 1 0
   shift_by r i b e =
       subst (λ (x : Bool). seen (Shift r) (register_items kind i)
       ≡ cond (x && (r == i)) 1 0) e (shift_of kind r i)
 
-  by_shift : (r : ℕ) (b : Bool) → has_shift kind ≡ b → Settled (Shift r)
+  by_shift : (r : ℕ) (b : Bool) → shows_shift_stages kind ≡ b → Settled (Shift r)
   by_shift r true e =
       by_register (Shift r) r refl (e ∙ sym (state_too kind e)) (λ h. h) (λ h. h)
       (λ i. shift_by r i true e) (λ j q. (refl, refl, refl)) (λ m. refl)
@@ -457,7 +458,7 @@ module _ (kind : WaveKind) (net : Net) (models : List SeenModel) (is : IsNet net
   settled (Update r) =
       by_register (Update r) r refl refl (λ h. h) (λ h. h)
       (update_of kind r) (λ j q. (refl, refl, refl)) (λ m. refl)
-  settled (Shift r) = by_shift r (has_shift kind) refl
+  settled (Shift r) = by_shift r (shows_shift_stages kind) refl
   settled (OnPath r) =
       by_register (OnPath r) r refl refl (λ h. h) (λ h. h)
       (path_of kind r) (λ j q. (refl, refl, refl)) (λ m. refl)

@@ -7,7 +7,8 @@ use Rattle.bench_report.specs.Report.{chip}
 use Rattle.ij_bits.proofs.WordBits.{length-bits_of}
 use Rattle.instruments.specs.declared.Counts.{Counts}
 use Rattle.instruments.specs.Seen.{SeenModel}
-use Rattle.net_bench.specs.Bench.{Chip, State, act, capture_bits, clock, dr_bits, enter, power_up, put_dr}
+use Rattle.net_bench.specs.Bench.{Chip, State, begin_clock, capture_bits, clock, dr_bits, end_clock}
+use Rattle.net_bench.specs.Bench.{power_up, put_dr}
 use Rattle.net_bench.specs.Bench.{run_from, select_of, update_dr}
 use Rattle.net_bench.specs.Instruction.{Selected, Network, Identity, Bypass, reset_instruction}
 use Rattle.net_bench.specs.Playing.{after_pins}
@@ -29,7 +30,7 @@ use Rattle.net_wave.specs.declared.var.Var.{Var}
 use Rattle.net_wave.specs.declared.var.Var.TheVariants.{Tms, Tdi, Tdo, Expect, Differs, Tap, Instruction}
 use Rattle.net_wave.specs.declared.var.Var.TheVariants.{Scan, Bit, Update, Shift, OnPath, Row, Input, Output}
 use Rattle.net_wave.specs.declared.var.Var.TheVariants.{Word}
-use Rattle.net_wave.specs.Header.{one_bit, ranged, shape, wide}
+use Rattle.net_wave.specs.Header.{one_bit, ranged, shape, shape_if_wide}
 use Rattle.net_wave.specs.Values.{digits, is_odd_at, row_digits, tap_code, unknown, value}
 use Rattle.net_wave.specs.Widths.{WidthsAgree}
 
@@ -48,7 +49,7 @@ row_long width None = unknown_long width
 row_long width (Some q) = digits_long _ width
 
 -- one bit has no range, and is as wide all the same
-pub wide_is : (width : ℕ) → (wide width).width ≡ width
+pub wide_is : (width : ℕ) → (shape_if_wide width).width ≡ width
 wide_is width = by (width == 1) refl
   where
     by : (b : Bool) → (width == 1) ≡ b → (cond b one_bit (ranged width)).width ≡ width
@@ -70,7 +71,7 @@ module _ (c : Chip Counts) where
   put_held Identity bits s = refl
   put_held Bypass bits s = refl
 
-  act_held : (t : TapState) (tdi : Bool) (s : State Counts) → (act c t tdi s).ir_hold ≡ s.ir_hold
+  act_held : (t : TapState) (tdi : Bool) (s : State Counts) → (begin_clock c t tdi s).ir_hold ≡ s.ir_hold
   act_held CaptureDr tdi s = put_held (select_of c s) (capture_bits c (select_of c s) s) s
   act_held ShiftDr tdi s = put_held (select_of c s) (shift (dr_bits c (select_of c s) s) tdi) s
   act_held _ tdi s = refl
@@ -86,8 +87,8 @@ module _ (c : Chip Counts) where
 
   -- where the instruction register is taken over, what it holds is what is in its stage
   enter_held : (before after : TapState) (s : State Counts)
-      → length (enter c before after s).ir_stage ≡ c.device.ir → length s.ir_hold ≡ c.device.ir
-      → length (enter c before after s).ir_hold ≡ c.device.ir
+      → length (end_clock c before after s).ir_stage ≡ c.device.ir → length s.ir_hold ≡ c.device.ir
+      → length (end_clock c before after s).ir_hold ≡ c.device.ir
   enter_held before UpdateIr s stage hold = stage
   enter_held before UpdateDr s stage hold = ap length (update_held (select_of c s) s) ∙ hold
   enter_held before TestLogicReset s stage hold = reset_long c.device
@@ -103,15 +104,15 @@ module _ (c : Chip Counts) where
       → length s.ir_hold ≡ c.device.ir → length (clock c tms tdi s).ir_hold ≡ c.device.ir
   unfolding clock
   clock_held tms tdi s after held =
-      enter_held s.tap (next s.tap tms) (record (act c s.tap tdi s) { tap = next s.tap tms }) after.ir
+      enter_held s.tap (next s.tap tms) (record (begin_clock c s.tap tdi s) { tap = next s.tap tms }) after.ir
       (ap length (act_held s.tap tdi s) ∙ held)
 
   pub played_fits : capture_widths c.net ≡ widths c.net
       → (ps : List Pins) (s : State Counts) → Fits s → Fits (after_pins c ps s)
-  played_fits wide [] s h = h
-  played_fits wide (p ∷ ps) s h =
-      let after = stays_shaped c (p ∷ []) s wide h.shaped in
-      played_fits wide ps (clock c p.tms p.tdi s)
+  played_fits shape_if_wide [] s h = h
+  played_fits shape_if_wide (p ∷ ps) s h =
+      let after = stays_shaped c (p ∷ []) s shape_if_wide h.shaped in
+      played_fits shape_if_wide ps (clock c p.tms p.tdi s)
       (record { shaped = after; held = clock_held p.tms p.tdi s after h.held })
 
   pub begins : Fits (power_up c)

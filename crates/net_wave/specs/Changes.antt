@@ -24,28 +24,28 @@ use Rattle.net_wave.specs.Vars.{up_to}
 
 -- ---- what a clock moves, by the states in which it begins and ends
 
-abbrev pub shifts_in : TapState → Bool
-shifts_in CaptureDr = true
-shifts_in ShiftDr = true
-shifts_in _ = false
+abbrev pub changes_shift_stages : TapState → Bool
+changes_shift_stages CaptureDr = true
+changes_shift_stages ShiftDr = true
+changes_shift_stages _ = false
 
-abbrev pub updates : TapState → Bool
-updates UpdateDr = true
-updates TestLogicReset = true
-updates _ = false
+abbrev pub changes_update_stages : TapState → Bool
+changes_update_stages UpdateDr = true
+changes_update_stages TestLogicReset = true
+changes_update_stages _ = false
 
-abbrev pub loads : TapState → Bool
-loads UpdateIr = true
-loads TestLogicReset = true
-loads _ = false
+abbrev pub changes_instruction : TapState → Bool
+changes_instruction UpdateIr = true
+changes_instruction TestLogicReset = true
+changes_instruction _ = false
 
 abbrev pub is_idle : TapState → Bool
 is_idle RunTestIdle = true
 is_idle _ = false
 
 -- instruments have an event at an update, a reset and a run
-abbrev pub runs : TapState → TapState → Bool
-runs before now = updates now || (is_idle before && is_idle now)
+abbrev pub has_instrument_event : TapState → TapState → Bool
+has_instrument_event before now = changes_update_stages now || (is_idle before && is_idle now)
 
 -- ---- variables
 
@@ -61,16 +61,16 @@ may_change b n Tdo = not (same_bit b.tdo n.tdo)
 may_change b n Expect = not (expect_digit b.pins.expect == expect_digit n.pins.expect)
 may_change b n Differs = not (same_bit (differs b.pins.expect b.tdo) (differs n.pins.expect n.tdo))
 may_change b n Tap = not (tap_code b.tap == tap_code n.tap)
-may_change b n Instruction = loads n.tap
+may_change b n Instruction = changes_instruction n.tap
 may_change b n Scan = not (b.pins.scan == n.pins.scan)
 may_change b n Bit = not (b.pins.bit == n.pins.bit)
-may_change b n (Update r) = updates n.tap
-may_change b n (Shift r) = shifts_in b.tap
-may_change b n (OnPath r) = updates n.tap
-may_change b n (Row m) = updates n.tap
-may_change b n (Input i p) = runs b.tap n.tap
-may_change b n (Output i p) = runs b.tap n.tap
-may_change b n (Word i w) = runs b.tap n.tap
+may_change b n (Update r) = changes_update_stages n.tap
+may_change b n (Shift r) = changes_shift_stages b.tap
+may_change b n (OnPath r) = changes_update_stages n.tap
+may_change b n (Row m) = changes_update_stages n.tap
+may_change b n (Input i p) = has_instrument_event b.tap n.tap
+may_change b n (Output i p) = has_instrument_event b.tap n.tap
+may_change b n (Word i w) = has_instrument_event b.tap n.tap
 
 abbrev pub is_shift : Var → Bool
 is_shift (Shift r) = true

@@ -25,7 +25,7 @@ use Rattle.net_wave.specs.Laws.{declared_from, scopes_from}
 use Rattle.net_wave.specs.Reader.{Declared, read_declared, read_scopes, read_value}
 use Rattle.net_wave.specs.Scopes.{IsPreorder, scopes_of}
 use Rattle.net_wave.specs.Values.{values}
-use Rattle.net_wave.specs.Vars.{has_state, items, vars}
+use Rattle.net_wave.specs.Vars.{shows_chip_state, items, vars}
 use Rattle.net_wave.specs.Wave.{wave_text}
 
 -- ---- the reader
@@ -50,11 +50,11 @@ IsWord name = All (λ x. (x ≢ 10) × (x ≢ 32)) name
 pub record FreeNamesAreWords (kind : WaveKind) (net : Net)
     (models : List SeenModel) (top : List ℕ) : Type 0 where
   pub outermost : IsWord top
-  pub inputs : has_state kind ≡ true
+  pub inputs : shows_chip_state kind ≡ true
       → All (λ inst. All (λ port. IsWord port.name.items) inst.ins.items) net.insts.items
-  pub outputs : has_state kind ≡ true
+  pub outputs : shows_chip_state kind ≡ true
       → All (λ inst. All (λ port. IsWord port.name.items) inst.outs.items) net.insts.items
-  pub words : has_state kind ≡ true → All (λ m. All (λ word. IsWord word.name) m.words) models
+  pub words : shows_chip_state kind ≡ true → All (λ m. All (λ word. IsWord word.name) m.words) models
 
 -- ---- files
 

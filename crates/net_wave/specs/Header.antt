@@ -78,8 +78,8 @@ abbrev pub ranged : ℕ → Shape
 ranged width = record { width = width; range = Some (record { left = width - 1; right = 0 }) }
 
 -- without a range where there is one alone
-abbrev pub wide : ℕ → Shape
-wide width = cond (width == 1) one_bit (ranged width)
+abbrev pub shape_if_wide : ℕ → Shape
+shape_if_wide width = cond (width == 1) one_bit (ranged width)
 
 -- the indexes of a register's thing; no range for index 0 alone
 abbrev pub left_of : Net → ℕ → ℕ
@@ -113,9 +113,9 @@ shape net device models (Update r) = register_shape net r
 shape net device models (Shift r) = register_shape net r
 shape net device models (OnPath r) = one_bit
 shape net device models (Row m) = ranged (row_width net m)
-shape net device models (Input i p) = wide (length (drivers net i p))
-shape net device models (Output i p) = wide (output_width net i p)
-shape net device models (Word i w) = wide (word_width models i w)
+shape net device models (Input i p) = shape_if_wide (length (drivers net i p))
+shape net device models (Output i p) = shape_if_wide (output_width net i p)
+shape net device models (Word i w) = shape_if_wide (word_width models i w)
 
 -- ---- lines
 

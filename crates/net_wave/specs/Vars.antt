@@ -21,15 +21,15 @@ abbrev pub up_to : {T : Type 0} → (ℕ → List T) → ℕ → List T
 up_to f zero = []
 up_to f (suc n) = up_to f n ++ f n
 
-abbrev pub has_state : WaveKind → Bool
-has_state Pins = false
-has_state State = true
-has_state All = true
+abbrev pub shows_chip_state : WaveKind → Bool
+shows_chip_state Pins = false
+shows_chip_state State = true
+shows_chip_state All = true
 
-abbrev pub has_shift : WaveKind → Bool
-has_shift Pins = false
-has_shift State = false
-has_shift All = true
+abbrev pub shows_shift_stages : WaveKind → Bool
+shows_shift_stages Pins = false
+shows_shift_stages State = false
+shows_shift_stages All = true
 
 -- ---- where things stand
 
@@ -70,7 +70,7 @@ pin_items =
 abbrev pub register_items : WaveKind → ℕ → List Item
 register_items kind r =
     Open (Register r) ∷ Declare (Update r)
-    ∷ (cond (has_shift kind) (Declare (Shift r) ∷ []) [] ++ Declare (OnPath r) ∷ Close ∷ [])
+    ∷ (cond (shows_shift_stages kind) (Declare (Shift r) ∷ []) [] ++ Declare (OnPath r) ∷ Close ∷ [])
 
 abbrev pub mux_items : ℕ → List Item
 mux_items m = Open (Multiplexer m) ∷ Declare (Row m) ∷ Close ∷ []
@@ -129,7 +129,7 @@ node_items kind net models k =
 -- pins alone, or all nodes
 abbrev pub items : WaveKind → Net → List SeenModel → List Item
 items kind net models =
-    pin_items ++ cond (has_state kind)
+    pin_items ++ cond (shows_chip_state kind)
     (up_to (node_items kind net models) (length net.nodes.items)) (Close ∷ [])
 
 -- ---- variables

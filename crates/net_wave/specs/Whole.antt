@@ -8,7 +8,7 @@ use Rattle.net_wave.specs.declared.var.Var.TheVariants.{Tms, Tdi, Tdo, Expect, D
 use Rattle.net_wave.specs.declared.var.Var.TheVariants.{Scan, Bit, Update, Shift, OnPath, Row, Input, Output}
 use Rattle.net_wave.specs.declared.var.Var.TheVariants.{Word}
 use Rattle.net_wave.specs.declared.var.WaveKind.{WaveKind}
-use Rattle.net_wave.specs.Vars.{IsVar, has_shift, has_state, vars}
+use Rattle.net_wave.specs.Vars.{IsVar, shows_shift_stages, shows_chip_state, vars}
 
 -- whether two variables are one
 abbrev pub same_var : Var → Var → Bool
@@ -37,13 +37,13 @@ times v (x ∷ xs) = cond (same_var v x) 1 0 + times v xs
 
 -- whether a kind of waves has variables of this sort: pins always, and shift stages with all else alone
 abbrev pub is_asked : WaveKind → Var → Bool
-is_asked kind (Update r) = has_state kind
-is_asked kind (Shift r) = has_shift kind
-is_asked kind (OnPath r) = has_state kind
-is_asked kind (Row m) = has_state kind
-is_asked kind (Input i p) = has_state kind
-is_asked kind (Output i p) = has_state kind
-is_asked kind (Word i w) = has_state kind
+is_asked kind (Update r) = shows_chip_state kind
+is_asked kind (Shift r) = shows_shift_stages kind
+is_asked kind (OnPath r) = shows_chip_state kind
+is_asked kind (Row m) = shows_chip_state kind
+is_asked kind (Input i p) = shows_chip_state kind
+is_asked kind (Output i p) = shows_chip_state kind
+is_asked kind (Word i w) = shows_chip_state kind
 is_asked kind _ = true
 
 -- Each variable that is asked and names something that is there is among the variables once, and no other is.

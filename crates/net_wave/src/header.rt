@@ -45,7 +45,7 @@ fn add_range(range: Option<Range>, piece: &mut SureSink) -> Result<(), OutOfMemo
 
 /// Adds what comes before the code of a variable.
 #[tactic(auto, unfolding(ij_io::specs::Words::words_text))]
-fn add_front(pin: bool, width: u32, piece: &mut SureSink) -> Result<(), OutOfMemory>
+fn add_var_type_and_width(pin: bool, width: u32, piece: &mut SureSink) -> Result<(), OutOfMemory>
     ensures { OnOk result (piece.new ≡ piece.old ++ header.front_text pin width) }
 {
     add_words(
@@ -74,7 +74,7 @@ fn add_var(
         ≡ piece.old ++ header.var_text net.now device.now (map seen_model models.now.items) number var) }
 {
     let it = var_shape(net, device, models, var);
-    add_front(is_pin(var), it.width, piece)?;
+    add_var_type_and_width(is_pin(var), it.width, piece)?;
     add_code(number, piece)?;
     add(b" ", piece)?;
     add_var_name(net, models, var, piece)?;

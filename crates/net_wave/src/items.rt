@@ -24,8 +24,8 @@ fn add_all(more: &[Item], items: &mut List<Item>) -> Result<(), OutOfMemory>
 }
 
 /// Whether a wave shows what is on the chip.
-fn has_state(kind: WaveKind) -> bool
-    ensures { result ≡ vars.has_state kind }
+fn shows_chip_state(kind: WaveKind) -> bool
+    ensures { result ≡ vars.shows_chip_state kind }
 {
     match kind {
         WaveKind::Pins => false,
@@ -35,8 +35,8 @@ fn has_state(kind: WaveKind) -> bool
 }
 
 /// Whether a wave shows shift stages.
-fn has_shift(kind: WaveKind) -> bool
-    ensures { result ≡ vars.has_shift kind }
+fn shows_shift_stages(kind: WaveKind) -> bool
+    ensures { result ≡ vars.shows_shift_stages kind }
 {
     match kind {
         WaveKind::Pins => false,
@@ -56,7 +56,7 @@ fn add_register(kind: WaveKind, reg: u32, items: &mut List<Item>) -> Result<(), 
         ],
         items,
     )?;
-    if has_shift(kind) {
+    if shows_shift_stages(kind) {
         return add_all(
             &[
                 Item::Declare(Var::Shift(reg)),
@@ -405,7 +405,7 @@ pub(crate) fn wave_items(
     ensures { IfOk result (λ items. items.items ≡ vars.items kind net.now (map seen_model models.now.items)) }
 {
     let mut items = pin_items(alloc)?;
-    if has_state(kind) {
+    if shows_chip_state(kind) {
         add_nodes(kind, net, models, &mut items)?;
     } else {
         items.push(Item::Close)?;

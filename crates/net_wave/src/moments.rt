@@ -132,7 +132,7 @@ fn add_changes(
 }
 
 /// Adds some words, if they are wanted.
-fn add_if(wanted: bool, words: &[u8], piece: &mut SureSink) -> Result<(), OutOfMemory>
+fn add_words_if(wanted: bool, words: &[u8], piece: &mut SureSink) -> Result<(), OutOfMemory>
     ensures { OnOk result (piece.new ≡ piece.old ++ cond wanted words.now []) }
 {
     if wanted {
@@ -215,10 +215,10 @@ pub(crate) fn add_falling(
         (pin_vars ++ vars.now) scene.now.pins scene.now.bench.now.state))) }
 {
     add(digits, piece)?;
-    add_if(first, b"\n$dumpvars", piece)?;
+    add_words_if(first, b"\n$dumpvars", piece)?;
     add_pins(scene, first, last, now, instruction, scratch, piece)?;
     add_changes(scene, vars, place, first, last, now, told, scratch, piece)?;
-    add_if(first, b"$end\n", piece)?;
+    add_words_if(first, b"$end\n", piece)?;
     Ok(())
 }
 

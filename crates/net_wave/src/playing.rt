@@ -88,7 +88,7 @@ fn empty_lists(alloc: Global, count: usize) -> Result<Vec<List<u8>>, OutOfMemory
 }
 
 /// Gives the shift stages beside a bench what those of its active path hold, if they changed.
-fn copy_if(changed: bool, bench: &Bench, stages: &mut Holds)
+fn copy_shift_stages_if(changed: bool, bench: &Bench, stages: &mut Holds)
     requires { AreHolds bench.now.net stages.old }
     ensures { stages.new ≡ cond changed (put_chain (route_of bench.now.net bench.now.state.holds) (bits_on
         (route_of bench.now.net bench.now.state.holds) bench.now.state.stages) stages.old) stages.old }
@@ -112,7 +112,7 @@ fn step(bench: &mut Bench, stages: &mut Holds, kept: bool, pins: Pins) -> bool
 {
     let moves = moves_stages(kept, bench.tap());
     let found = bench.clock(pins.tms, pins.tdi);
-    copy_if(moves, bench, stages);
+    copy_shift_stages_if(moves, bench, stages);
     differs(pins.expect, found)
 }
 

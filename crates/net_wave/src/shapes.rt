@@ -52,8 +52,8 @@ fn ranged(width: u32) -> Shape
 }
 
 /// Bits that are counted down to 0, where there is more than one.
-fn wide(width: u32) -> Shape
-    ensures { result ≡ header.wide width }
+fn shape_if_wide(width: u32) -> Shape
+    ensures { result ≡ header.shape_if_wide width }
 {
     if width == 1 { one_bit() } else { ranged(width) }
 }
@@ -167,9 +167,9 @@ pub(crate) fn var_shape(net: &Net, device: &Device, models: &List<Model>, var: V
         Var::Update(reg) => register_shape(net, reg),
         Var::Shift(reg) => register_shape(net, reg),
         Var::Row(mux) => ranged(row_width(net, mux)),
-        Var::Input(inst, port) => wide(input_width(net, inst, port)),
-        Var::Output(inst, port) => wide(output_at(net, inst, port).width),
-        Var::Word(inst, word) => wide(word_at(models, inst, word).width),
+        Var::Input(inst, port) => shape_if_wide(input_width(net, inst, port)),
+        Var::Output(inst, port) => shape_if_wide(output_at(net, inst, port).width),
+        Var::Word(inst, word) => shape_if_wide(word_at(models, inst, word).width),
         Var::Tms => one_bit(),
         Var::Tdi => one_bit(),
         Var::Tdo => one_bit(),

@@ -18,8 +18,8 @@ pub(crate) struct Shown {
 }
 
 /// Whether update stages of the network change where a clock ends in a state.
-fn updates(tap: TapState) -> bool
-    ensures { result ≡ changes.updates tap }
+fn changes_update_stages(tap: TapState) -> bool
+    ensures { result ≡ changes.changes_update_stages tap }
 {
     match tap {
         TapState::UpdateDr => true,
@@ -29,8 +29,8 @@ fn updates(tap: TapState) -> bool
 }
 
 /// Whether the instruction changes where a clock ends in a state.
-fn loads(tap: TapState) -> bool
-    ensures { result ≡ changes.loads tap }
+fn changes_instruction(tap: TapState) -> bool
+    ensures { result ≡ changes.changes_instruction tap }
 {
     match tap {
         TapState::UpdateIr => true,
@@ -50,15 +50,15 @@ fn is_idle(tap: TapState) -> bool
 }
 
 /// Whether instruments have an event in a clock from one state to another.
-fn runs(before: TapState, now: TapState) -> bool
-    ensures { result ≡ changes.runs before now }
+fn has_instrument_event(before: TapState, now: TapState) -> bool
+    ensures { result ≡ changes.has_instrument_event before now }
 {
-    updates(now) || (is_idle(before) && is_idle(now))
+    changes_update_stages(now) || (is_idle(before) && is_idle(now))
 }
 
 /// Whether a clock that begins in a state changes shift stages of the network.
-fn shifts_in(tap: TapState) -> bool
-    ensures { result ≡ changes.shifts_in tap }
+fn changes_shift_stages(tap: TapState) -> bool
+    ensures { result ≡ changes.changes_shift_stages tap }
 {
     match tap {
         TapState::CaptureDr => true,
@@ -80,16 +80,16 @@ pub(crate) fn may_change(before: &Shown, now: &Shown, var: Var) -> bool
             differs(before.pins.expect, before.tdo) != differs(now.pins.expect, now.tdo)
         }
         Var::Tap => tap_code(before.tap) != tap_code(now.tap),
-        Var::Instruction => loads(now.tap),
+        Var::Instruction => changes_instruction(now.tap),
         Var::Scan => before.pins.scan != now.pins.scan,
         Var::Bit => before.pins.bit != now.pins.bit,
-        Var::Update(_) => updates(now.tap),
-        Var::Shift(_) => shifts_in(before.tap),
-        Var::OnPath(_) => updates(now.tap),
-        Var::Row(_) => updates(now.tap),
-        Var::Input(_, _) => runs(before.tap, now.tap),
-        Var::Output(_, _) => runs(before.tap, now.tap),
-        Var::Word(_, _) => runs(before.tap, now.tap),
+        Var::Update(_) => changes_update_stages(now.tap),
+        Var::Shift(_) => changes_shift_stages(before.tap),
+        Var::OnPath(_) => changes_update_stages(now.tap),
+        Var::Row(_) => changes_update_stages(now.tap),
+        Var::Input(_, _) => has_instrument_event(before.tap, now.tap),
+        Var::Output(_, _) => has_instrument_event(before.tap, now.tap),
+        Var::Word(_, _) => has_instrument_event(before.tap, now.tap),
     }
 }
 
@@ -104,7 +104,7 @@ fn is_shift(var: Var) -> bool
 }
 
 /// The place after a variable if that is a pin, and the earlier one if not.
-fn place_after(var: Var, i: usize, place: usize) -> usize
+fn pins_end_after(var: Var, i: usize, place: usize) -> usize
     requires { i < usize.MAX }
     ensures { result ≡ cond (is_pin var) (i + 1) place }
 {
@@ -118,7 +118,7 @@ pub(crate) fn after_pins(vars: &[Var]) -> usize
 {
     let mut place = 0;
     for i in 0..vars.len() {
-        place = place_after(vars[i], i, place);
+        place = pins_end_after(vars[i], i, place);
     }
     place
 }
@@ -137,9 +137,9 @@ pub(crate) fn has_shifts(vars: &[Var]) -> bool
 
 /// Whether shift stages change at a clock that begins in a state, if they are kept.
 pub(crate) fn moves_stages(kept: bool, tap: TapState) -> bool
-    ensures { result ≡ (kept && changes.shifts_in tap) }
+    ensures { result ≡ (kept && changes.changes_shift_stages tap) }
 {
-    kept && shifts_in(tap)
+    kept && changes_shift_stages(tap)
 }
 
 /// How many variables are to be looked at, from the first on: those after them stay from a clock to the next.
@@ -157,7 +157,7 @@ pub(crate) fn vars_to_check(
     ensures few { result ≤ length vars.now }
     ensures rest { changes.Stay before.now now.now vars.now result }
 {
-    if runs(before.tap, now.tap) {
+    if has_instrument_event(before.tap, now.tap) {
         return vars.len();
     }
     if moves_stages(shifts, before.tap) {

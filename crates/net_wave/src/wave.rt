@@ -23,7 +23,7 @@ use crate::items::{vars_of, wave_items};
 use crate::playing::Playing;
 use crate::var::{Var, WaveKind, Window};
 use ij_bits::{List, OutOfMemory};
-use ij_io::{Shelf, StoreFault, SureSink, next_piece, put_last_piece};
+use ij_io::{Shelf, StoreFault, SureSink, put_last_piece, store_full_piece};
 use instruments::Model;
 use net_graph::{Device, Net};
 use std::alloc::Global;
@@ -53,7 +53,7 @@ fn put_moments<S: Shelf>(
 {
     let mut piece = piece;
     while playing.add_next(&mut piece)? {
-        piece = next_piece(alloc, name, piece, shelf)?;
+        piece = store_full_piece(alloc, name, piece, shelf)?;
     }
     put_last_piece(name, &piece, shelf)
 }

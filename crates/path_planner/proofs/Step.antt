@@ -29,7 +29,7 @@ use Rattle.net_tree.proofs.Walks.{has_walk}
 use Rattle.path_planner.specs.Least.{ScanStep}
 use Rattle.path_planner.specs.Opening.{InputsStay}
 use Rattle.path_planner.specs.Scannable.{IsScannable}
-use Rattle.path_planner.specs.Settling.{agrees_off, values_of, is_in_row, settle}
+use Rattle.path_planner.specs.Settling.{agrees_off_path, values_of, is_in_row, settle}
 use Rattle.path_planner.proofs.Among.{Among, all_among, among_all, among_contains, off_false}
 use Rattle.path_planner.proofs.Apart.{Apart, apart_counts, in_part, part_in, one_part}
 use Rattle.path_planner.proofs.Rows.{in_row, row_in, value_for, Leaves, settle-shape, settle-off}
@@ -248,7 +248,7 @@ module _ (net : Net) (form : Items) (n : IsNet net) (d : Describes net form) (w 
 
     -- a value of the row that agrees off the path: the mux is in the row after
     pub set_in : (b : Branch) (t : Tern) → Among b bs → Among t (values_of net b)
-        → agrees_off holds path (selects_of net b.mux) t.value.items t.care.items ≡ true
+        → agrees_off_path holds path (selects_of net b.mux) t.value.items t.care.items ≡ true
         → row_of net after b.mux ≡ Some b.row
     set_in b t a i g =
         ⊎_elim (λ f. stays_in b a (in_row net holds b f)) (λ f. now f) (cases_Bool (is_in_row net holds b))
@@ -256,8 +256,8 @@ module _ (net : Net) (form : Items) (n : IsNet net) (d : Describes net form) (w 
         on : List ℕ
         on = route_of net holds
 
-        agrees : agrees_off holds on (selects_of net b.mux) t.value.items t.care.items ≡ true
-        agrees = subst (λ p. agrees_off holds p (selects_of net b.mux) t.value.items t.care.items ≡ true)
+        agrees : agrees_off_path holds on (selects_of net b.mux) t.value.items t.care.items ≡ true
+        agrees = subst (λ p. agrees_off_path holds p (selects_of net b.mux) t.value.items t.care.items ≡ true)
             (sym path_is) g
 
         now : is_in_row net holds b ≡ false → row_of net after b.mux ≡ Some b.row
@@ -331,7 +331,7 @@ module _ (net : Net) (form : Items) (n : IsNet net) (d : Describes net form) (w 
               out = f;
               now_in =
                   subst (λ z. row_of net after z ≡ Some b.row) g
-                  (set_in b t a j (subst (λ p. agrees_off holds p
+                  (set_in b t a j (subst (λ p. agrees_off_path holds p
                   (selects_of net b.mux) t.value.items t.care.items ≡ true) path_is good));
             })) (none_or_some
             (value_for net holds (route_of net holds) b))) (cases_Bool (is_in_row net holds b))

@@ -17,18 +17,18 @@ use Rattle.net_tree.specs.Needs.{needs}
 use Rattle.net_tree.specs.Lawful.{selects_of}
 
 -- whether a value agrees with what is held at the select bits off the path; an x agrees with both
-abbrev pub agrees_off : Holds → List ℕ → List BitId → List Bool → List Bool → Bool
-agrees_off holds path [] vs cs = true
-agrees_off holds path (b ∷ bs) [] cs = true
-agrees_off holds path (b ∷ bs) (v ∷ vs) [] = true
-agrees_off holds path (b ∷ bs) (v ∷ vs) (c ∷ cs) =
-    (is_in path b.reg || (not c || same_bit v (hold_at holds b))) && agrees_off holds path bs vs cs
+abbrev pub agrees_off_path : Holds → List ℕ → List BitId → List Bool → List Bool → Bool
+agrees_off_path holds path [] vs cs = true
+agrees_off_path holds path (b ∷ bs) [] cs = true
+agrees_off_path holds path (b ∷ bs) (v ∷ vs) [] = true
+agrees_off_path holds path (b ∷ bs) (v ∷ vs) (c ∷ cs) =
+    (is_in path b.reg || (not c || same_bit v (hold_at holds b))) && agrees_off_path holds path bs vs cs
 
 -- the first value of a row that agrees
 abbrev pub first_value : Holds → List ℕ → List BitId → List Tern → Option Tern
 first_value holds path bs [] = None
 first_value holds path bs (t ∷ ts) =
-    elim (agrees_off holds path bs t.value.items t.care.items) [
+    elim (agrees_off_path holds path bs t.value.items t.care.items) [
       | true ↦ Some t
       | false ↦ first_value holds path bs ts
     ]

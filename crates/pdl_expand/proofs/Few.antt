@@ -8,7 +8,8 @@ use Rattle.pdl_parser.specs.Values.{AValue, Command, APrefix, ACall, AWrite, ARe
 use Rattle.pdl_parser.specs.Values.{ANote, AMergeBegin, AMergeEnd, ALine, AProc}
 use Rattle.pdl_expand.specs.Values.{ACell}
 use Rattle.pdl_expand.specs.Expansion.{AFault, IsTooManySteps, IsArgCount, Way, LeadsTo, EndsAt, but_last}
-use Rattle.pdl_expand.specs.Expansion.{last, way, find_proc, cell, put_in, bound_to, Frame, fresh, Trace}
+use Rattle.pdl_expand.specs.Expansion.{last, way, find_proc, cell, substituted_value, bound_to, Frame}
+use Rattle.pdl_expand.specs.Expansion.{fresh, Trace}
 use Rattle.pdl_expand.specs.Expansion.{refused, followed, and_then, branch_end, after, Doing, enter, call_of}
 use Rattle.pdl_expand.specs.Expansion.{call_along, do_command, do_line, do_lines, calls, nowhere, start}
 use Rattle.pdl_expand.specs.Expansion.{expansion}
@@ -87,7 +88,7 @@ module _ (procs : List AProc) (cells : List ACell) where
   command_few doing all at frame (ACall path values) n h =
       let along = way cells frame.node (but_last (frame.prefix ++ path)) in
       let name = last (frame.prefix ++ path) in
-      let filled = map (put_in frame.args) values in
+      let filled = map (substituted_value frame.args) values in
       ended_few n (call_along procs cells doing at along name filled (suc n)) frame.merging at frame.node
       (call_along_few doing all at along name filled (suc n) h)
   command_few doing all at frame (AWrite target v) n h = (omega arith, h)

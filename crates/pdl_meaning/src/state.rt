@@ -14,7 +14,7 @@ ghost use Rattle.instruments.specs.Runners.{machines_of, AreModels};
 
 use crate::bits::{capture_of, run_times, write_bits};
 use ij_bits::{List, OutOfMemory};
-use instruments::{Counts, Model, Runner, captured, reset_all, show_all, start};
+use instruments::{Counts, Model, Runner, captured, drive_all_inputs, reset_all, start};
 use net_graph::{BitId, Holds, Net, WriteBit};
 use std::alloc::Global;
 
@@ -96,7 +96,7 @@ impl<'a> DataState<'a> {
         } }
     {
         write_bits(&mut self.holds, writes);
-        show_all(
+        drive_all_inputs(
             self.net,
             self.models,
             &self.holds,

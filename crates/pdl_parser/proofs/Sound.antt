@@ -30,7 +30,8 @@ use Rattle.pdl_parser.specs.Values.{AValue, ANumber, AWord, AnArgument, Command,
 use Rattle.pdl_parser.specs.Texts.{Verdict, Taken, Barred, Unfit, name_of, is_too_wide, number_verdict, is_in}
 use Rattle.pdl_parser.specs.Texts.{argument_verdict, value_of, is_loop_option, count_of}
 use Rattle.pdl_parser.specs.Grammar.{if_plain, mark, value_in, plain, judged, plain_verdict, value}
-use Rattle.pdl_parser.specs.Grammar.{command_after, line_after, is_nothing, line, Body, with_line, lines}
+use Rattle.pdl_parser.specs.Grammar.{command_after, line_after, is_empty_command, line, Body, with_line}
+use Rattle.pdl_parser.specs.Grammar.{lines}
 use Rattle.pdl_parser.specs.Grammar.{body, new_name, arguments, full_name, full_names, proc_verdict}
 use Rattle.pdl_parser.specs.Grammar.{proc_name, proc_after, File, in_module, part_after, part, procs}
 use Rattle.pdl_parser.specs.Laws.{IsDeclared, AreDeclared, IsSound}
@@ -222,7 +223,7 @@ module _ (args : List (List ℕ)) where
   line_kept : (b : Body) (ts : List Word) (o : Option ALine) → All LineDeclared b.lines
       → (line args b.merging).derives ts o → All LineDeclared (with_line b o).lines
   unfolding line
-  line_kept b ts o p (front, back, begin, e, one, two) = by_test (is_nothing begin.word) two
+  line_kept b ts o p (front, back, begin, e, one, two) = by_test (is_empty_command begin.word) two
     where
       given : (o : Option ALine) (l : ALine) → o ≡ Some l → LineDeclared l
           → All LineDeclared (with_line b o).lines

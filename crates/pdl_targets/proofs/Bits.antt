@@ -26,7 +26,7 @@ use Rattle.pdl_parser.specs.Values.{AValue, ATarget}
 use Rattle.pdl_targets.specs.declared.picks.Picked.{Picked}
 use Rattle.pdl_targets.specs.Targets.{AFault, Found, Is, Fails, found_then, and_more, unless_select}
 use Rattle.pdl_targets.specs.Targets.{select_written, select_compared, captured_select, same_source, differ}
-use Rattle.pdl_targets.specs.Targets.{is_inverted, capturing, captured_from, held_if_captured, write_bit}
+use Rattle.pdl_targets.specs.Targets.{is_inverted, capturing, captured_from, picked_if_captures, write_bit}
 use Rattle.pdl_targets.specs.Targets.{read_bit, written, compared, writes_of, reads_of, named, target_thing}
 use Rattle.pdl_targets.specs.Targets.{thing_in, thing_of, thing_at, spots_of, has_index, position_of}
 use Rattle.pdl_targets.specs.Targets.{number_at, fitted}
@@ -244,7 +244,7 @@ module _ (net : Net) (well : IsNet net) where
   captured_there (Some p) h = of_network p.bit h
 
   is_held : (b : BitId) → IsBitOf net b → (s : Sig) → capture_signal net b ≡ s
-      → OfOption (λ p. Captures p.bit) (held_if_captured b s)
+      → OfOption (λ p. Captures p.bit) (picked_if_captures b s)
   is_held b h Absent e = tt
   is_held b h Zero e = (h, subst HasSource (sym e) tt)
   is_held b h One e = (h, subst HasSource (sym e) tt)

@@ -7,7 +7,7 @@ ghost use Rattle.pdl_targets.specs.Captors.{Adds, AreCaptors, captors_in, captur
 ghost use Rattle.pdl_targets.specs.Captors.{slot, slot_of};
 ghost use Rattle.pdl_targets.specs.Targets.{capturing, captured_from, compared};
 
-use crate::picks::{Picked, capture_of, flip_if, held_if_captured, is_inverted, same_source};
+use crate::picks::{Picked, capture_of, flip_if, is_inverted, picked_if_captures, same_source};
 use ij_bits::{List, OutOfMemory};
 use net_graph::{BitId, Net, Reg, Sig, Spot};
 use std::alloc::Global;
@@ -90,7 +90,7 @@ fn captured(slots: &[List<Captor>], signal: Sig) -> Option<Picked>
 }
 
 /// Makes a table long enough for a slot.
-fn make_long(alloc: Global, slots: &mut Vec<List<Captor>>, slot: usize) -> Result<(), OutOfMemory>
+fn grow_slots(alloc: Global, slots: &mut Vec<List<Captor>>, slot: usize) -> Result<(), OutOfMemory>
     ensures same { OnOk result ((k : ℕ) → captors_in slots.new.items k ≡ captors_in slots.old.items k) }
     ensures long { OnOk result (slot < length slots.new.items) }
 {
@@ -109,7 +109,7 @@ fn add_captor(
     ensures { OnOk result (Adds slots.old.items slots.new.items captor) }
 {
     let slot = slot_of(captor.signal);
-    make_long(alloc, slots, slot)?;
+    grow_slots(alloc, slots, slot)?;
     slots[slot].push(captor)?;
     Ok(())
 }
@@ -162,7 +162,7 @@ pub(crate) fn compared(net: &Net, captors: &Captors, spot: Spot) -> Option<Picke
     ensures { result ≡ compared net.now spot }
 {
     match spot {
-        Spot::Held(bit) => held_if_captured(bit, capture_of(net, bit)),
+        Spot::Held(bit) => picked_if_captures(bit, capture_of(net, bit)),
         Spot::Inward(signal) | Spot::Outward(signal) => captured(&captors.slots, signal),
     }
 }

@@ -6,7 +6,7 @@ ghost use Rattle.pdl_targets.specs.Sets.{has_round, word_of};
 ghost use Rattle.pdl_targets.specs.Rows.{AreMuxSets, has_other, no_mux, row_at};
 
 use crate::sets::RoundSet;
-use crate::words::{either, without};
+use crate::words::{bits_of_either, without};
 use ij_bits::OutOfMemory;
 use std::alloc::Global;
 use std::marker::Model;
@@ -45,7 +45,7 @@ fn put(
 }
 
 /// Puts a round in where it is wanted.
-fn add_where(set: &mut RoundSet, stamp: u32, round: u32, wanted: bool) -> Result<(), OutOfMemory>
+fn add_round_if(set: &mut RoundSet, stamp: u32, round: u32, wanted: bool) -> Result<(), OutOfMemory>
     ensures put { OnOk result ((k : ℕ)
         → has_round stamp set.new k ≡ ((wanted && k == round) || has_round stamp set.old k)) }
     ensures keeps { (k : ℕ) → has_round stamp set.old k ≡ true → has_round stamp set.new k ≡ true }
@@ -106,12 +106,12 @@ impl MuxRounds {
     }
 
     /// Which of the 64 rounds from `64 * w` on have another row. Takes no memory.
-    pub fn other_word(&self, stamp: u32, row: u32, w: usize) -> u64
+    pub fn other_rows_word(&self, stamp: u32, row: u32, w: usize) -> u64
         ensures { (j : ℕ) → j < 64 → (bit_at result j == 1) ≡ has_other stamp self.now row (64 * w + j) }
     {
         let several = self.several.word(stamp, w);
         let any = self.any.word(stamp, w);
-        either(several, without(any, self.row_word(stamp, row, w)))
+        bits_of_either(several, without(any, self.row_word(stamp, row, w)))
     }
 
     /// Whether a round has a row, and not this one.
@@ -136,7 +136,7 @@ impl MuxRounds {
         ensures kept { AreMuxSets stamp self.new }
     {
         let further = self.is_further(stamp, row, round);
-        add_where(&mut self.several, stamp, round, further)?;
+        add_round_if(&mut self.several, stamp, round, further)?;
         self.any.add(stamp, round)?;
         put(alloc, &mut self.rows, stamp, row, round)?;
         Ok(())

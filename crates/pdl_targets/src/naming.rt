@@ -90,7 +90,7 @@ pub(crate) fn write_bits(
 }
 
 /// The reads of an iRead without a value.
-fn nothing_read(
+fn reads_without_value(
     alloc: Global,
     net: &Net,
     index: &Index,
@@ -108,7 +108,7 @@ fn nothing_read(
 }
 
 /// The reads of an iRead with a value, which is the one of this number.
-fn value_read(
+fn reads_with_value(
     alloc: Global,
     net: &Net,
     index: &Index,
@@ -153,7 +153,7 @@ pub(crate) fn read_bits(
         (read_bits net.now at node number (seen_target target.now) (option_map seen_value value.now)) result }
 {
     match value {
-        None => nothing_read(alloc, net, index, at, node, target),
-        Some(value) => value_read(alloc, net, index, at, node, number, target, value),
+        None => reads_without_value(alloc, net, index, at, node, target),
+        Some(value) => reads_with_value(alloc, net, index, at, node, number, target, value),
     }
 }

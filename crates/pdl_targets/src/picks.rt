@@ -4,7 +4,7 @@ ghost use Rattle.ij_bits.specs.BitLists.{flip_if};
 ghost use Rattle.net_graph.specs.Path.{same_place};
 ghost use Rattle.net_graph.specs.Signals.{capture_signal};
 ghost use Rattle.pdl_targets.specs.Marked.{AreSelects};
-ghost use Rattle.pdl_targets.specs.Targets.{held_if_captured, is_inverted, same_source, select_compared};
+ghost use Rattle.pdl_targets.specs.Targets.{picked_if_captures, is_inverted, same_source, select_compared};
 ghost use Rattle.pdl_targets.specs.Targets.{written};
 
 use net_graph::{BitId, BitMarks, Net, Sig, Spot, is_marked_select, same_place};
@@ -99,8 +99,8 @@ pub(crate) fn capture_of(net: &Net, bit: BitId) -> Sig
 }
 
 /// A register bit that captures something.
-pub(crate) fn held_if_captured(bit: BitId, signal: Sig) -> Option<Picked>
-    ensures { result ≡ held_if_captured bit signal }
+pub(crate) fn picked_if_captures(bit: BitId, signal: Sig) -> Option<Picked>
+    ensures { result ≡ picked_if_captures bit signal }
 {
     match signal {
         Sig::Absent => None,

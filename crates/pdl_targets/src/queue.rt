@@ -6,7 +6,10 @@ ghost use Rattle.pdl_targets.specs.Marked.{AreNumbered, bits_compared, bits_writ
 ghost use Rattle.pdl_targets.specs.Rounds.{mention, put_read, put_reads, put_write, put_writes};
 
 use ij_bits::Buffer;
-use net_graph::{BitId, BitMarks, Net, ReadBit, WriteBit, is_in, mark_next, read_at, written_at};
+use net_graph::{
+    BitId, BitMarks, Net, ReadBit, WriteBit, index_of_read, index_of_write, is_marked_register,
+    mark_next,
+};
 
 /// Puts a write into a queue with room for it: in place of one of the same bit, or at the end.
 fn put_write(net: &Net, marks: &mut BitMarks, writes: &mut Buffer<WriteBit>, write: WriteBit)
@@ -19,7 +22,7 @@ fn put_write(net: &Net, marks: &mut BitMarks, writes: &mut Buffer<WriteBit>, wri
     ensures few { length writes.new.items ≤ length writes.old.items + 1 }
     ensures numbered { AreNumbered net.now marks.new (bits_written writes.new.items) }
 {
-    match written_at(net, marks, writes.as_slice(), write.bit) {
+    match index_of_write(net, marks, writes.as_slice(), write.bit) {
         Some(i) => writes.set(i, write),
         None => {
             mark_next(net, marks, write.bit, writes.len());
@@ -58,7 +61,7 @@ fn put_read(net: &Net, marks: &mut BitMarks, reads: &mut Buffer<ReadBit>, read: 
     ensures few { length reads.new.items ≤ length reads.old.items + 1 }
     ensures numbered { AreNumbered net.now marks.new (bits_compared reads.new.items) }
 {
-    match read_at(net, marks, reads.as_slice(), read.bit) {
+    match index_of_read(net, marks, reads.as_slice(), read.bit) {
         Some(i) => reads.set(i, read),
         None => {
             mark_next(net, marks, read.bit, reads.len());
@@ -97,7 +100,7 @@ fn mention_one(net: &Net, marks: &mut BitMarks, registers: &mut Buffer<u32>, bit
     ensures few { length registers.new.items ≤ length registers.old.items + 1 }
     ensures numbered { AreNumbered net.now marks.new (first_bits registers.new.items) }
 {
-    if is_in(net, marks, registers.as_slice(), bit.reg) {
+    if is_marked_register(net, marks, registers.as_slice(), bit.reg) {
         return;
     }
     let first = BitId {

@@ -7,7 +7,7 @@ ghost use Rattle.net_graph.specs.declared.branch.Branch.{Branch as ABranch};
 ghost use Rattle.pdl_targets.specs.Rows.{AreMuxSets, exclude, excluded_at, has_other, mux_at};
 
 use crate::mux_rounds::MuxRounds;
-use crate::words::{either, first_open};
+use crate::words::{bits_of_either, first_open};
 use ij_bits::OutOfMemory;
 use net_graph::Branch;
 use std::alloc::Global;
@@ -110,12 +110,12 @@ impl RowSets {
     }
 
     /// Which of the 64 rounds from `64 * w` on have a row that a row excludes.
-    fn other_word(&self, branch: Branch, w: usize) -> u64
+    fn other_rows_word(&self, branch: Branch, w: usize) -> u64
         ensures { (j : ℕ) → j < 64 → (bit_at result j == 1) ≡ excluded_at self.now branch (64 * w + j) }
     {
         let at = branch.mux as usize;
         if at < self.muxes.len() {
-            self.muxes[at].other_word(self.stamp, branch.row, w)
+            self.muxes[at].other_rows_word(self.stamp, branch.row, w)
         } else {
             0
         }
@@ -128,7 +128,7 @@ impl RowSets {
     {
         let mut word = 0;
         for branch in branches {
-            word = either(word, self.other_word(*branch, w));
+            word = bits_of_either(word, self.other_rows_word(*branch, w));
         }
         word
     }

@@ -75,7 +75,7 @@ impl RoundSet {
     }
 
     /// Takes a stamp. Where it is another one, no round is left.
-    fn begin(&mut self, stamp: u32)
+    fn take_stamp(&mut self, stamp: u32)
         ensures stamped { self.new.stamp ≡ stamp }
         ensures same { (w : ℕ) → word_of stamp self.new w ≡ word_of stamp self.old w }
     {
@@ -93,7 +93,7 @@ impl RoundSet {
         ensures keeps { (k : ℕ) → has_round stamp self.old k ≡ true → has_round stamp self.new k ≡ true }
         ensures stamped { self.new.stamp ≡ stamp }
     {
-        self.begin(stamp);
+        self.take_stamp(stamp);
         grow(&mut self.words, (round / 64) as usize + 1)?;
         put(&mut self.words, round);
         Ok(())

@@ -38,7 +38,7 @@ fn last(path: &[Name]) -> &[u8]
     }
 }
 
-/// The number of the thing of this name in a cell.
+/// The thing of this name in a cell.
 fn thing_in<'a>(things: &'a [Thing], node: u32, name: &[u8]) -> Option<&'a Thing>
     ensures { option_map (λ t. t.now) result ≡ thing_in things.now node name.now }
 {

@@ -17,7 +17,7 @@ pub fn first_open(word: u64) -> Option<u32>
 }
 
 /// The bits of two words.
-pub fn either(word: u64, other: u64) -> u64
+pub fn bits_of_either(word: u64, other: u64) -> u64
     ensures { (j : ℕ) → (bit_at result j == 1) ≡ (bit_at word j == 1 || bit_at other j == 1) }
 {
     word | other

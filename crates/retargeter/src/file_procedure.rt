@@ -12,7 +12,7 @@ ghost use Rattle.ij_io.specs.Pieces.{HoldsFront, IsThere, with_piece};
 
 use crate::retargeter::Retargeter;
 use headline::planned_steps_law;
-use ij_io::{Shelf, StoreFault, SureSink, next_piece, put_last_piece};
+use ij_io::{Shelf, StoreFault, SureSink, put_last_piece, store_full_piece};
 use merge_order::{BitSteps, next_step};
 use net_graph::{Device, Net};
 use net_tree::Tree;
@@ -46,7 +46,7 @@ fn put_steps<'a, 'b, S: Shelf>(
     let mut piece = piece;
     while let Some(step) = next_step(steps)? {
         session.put_step(&step, &mut piece)?;
-        piece = next_piece(alloc, name, piece, shelf)?;
+        piece = store_full_piece(alloc, name, piece, shelf)?;
     }
     put_last_piece(name, &piece, shelf)
 }

@@ -18,7 +18,7 @@ use net_graph::{Group, Holds, Net};
 use net_tree::Tree;
 use scan_packer::HeldPath;
 use std::alloc::Global;
-use svf_writer::{put_mark, put_round};
+use svf_writer::{put_apply_mark, put_round_mark};
 
 /// Writes the comment before a round, by the numbers of its iApply and of the round, counted from 1. Takes no
 /// memory.
@@ -29,9 +29,9 @@ fn put_comment<K: Sink>(apply: u32, round: u32, k: &mut K) -> Result<(), StoreFa
     ensures cause { HasCause (K.faults k.old) (K.faults k.new) result StoreFault.Failed }
 {
     if round == 1 {
-        put_mark(apply, k)
+        put_apply_mark(apply, k)
     } else {
-        put_round(apply, round, k)
+        put_round_mark(apply, round, k)
     }
 }
 

@@ -19,7 +19,7 @@ use ij_bits::Bits;
 use ij_io::{Sink, StoreFault, Word, put_words};
 use net_graph::{Holds, Net, ReadBit, WriteBit};
 use scan_packer::{HeldPath, pack_reads_on, pack_tdi_on};
-use svf_writer::put_list;
+use svf_writer::put_bits_part;
 
 /// Writes a scan that compares nothing.
 #[tactic(auto, unfolding(ij_io::specs::Words::words_text))]
@@ -31,7 +31,7 @@ fn put_scan<'a, K: Sink>(tdi: &'a Bits, k: &mut K) -> Result<(), StoreFault>
     ensures cause { HasCause (K.faults k.old) (K.faults k.new) result StoreFault.Failed }
 {
     put_words(k, &[Word::Text(b"SDR "), Word::Number(tdi.len() as u64)])?;
-    put_list(b" TDI (", tdi, k)?;
+    put_bits_part(b" TDI (", tdi, k)?;
     k.write(b";\n")?;
     Ok(())
 }
@@ -51,9 +51,9 @@ fn put_scan_compared<'a, K: Sink>(
     ensures cause { HasCause (K.faults k.old) (K.faults k.new) result StoreFault.Failed }
 {
     put_words(k, &[Word::Text(b"SDR "), Word::Number(tdi.len() as u64)])?;
-    put_list(b" TDI (", tdi, k)?;
-    put_list(b" TDO (", tdo, k)?;
-    put_list(b" MASK (", mask, k)?;
+    put_bits_part(b" TDI (", tdi, k)?;
+    put_bits_part(b" TDO (", tdo, k)?;
+    put_bits_part(b" MASK (", mask, k)?;
     k.write(b";\n")?;
     Ok(())
 }

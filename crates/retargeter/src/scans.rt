@@ -25,7 +25,7 @@ use crate::scan::put_scan_on;
 use ij_io::{Sink, StoreFault};
 use net_graph::{Group, Holds, Net};
 use net_tree::{ScanPlan, Tree};
-use path_planner::{OpeningPlans, advance, take_writes};
+use path_planner::{OpeningPlans, take_plan_writes, take_writes};
 use scan_packer::HeldPath;
 use std::alloc::Global;
 
@@ -66,7 +66,7 @@ fn put_opening<K: Sink>(
         buffers,
         k,
     )?;
-    advance(holds, plan);
+    take_plan_writes(holds, plan);
     path.find(net, tree, holds);
     Ok(())
 }

@@ -21,7 +21,7 @@ use crate::place::{ReadPlace, note_reads};
 use ij_bits::{List, OutOfMemory};
 use net_graph::{BitStep, Group, Holds, Net};
 use net_tree::{Route, ScanPlan, Tree};
-use path_planner::{advance, plan_group};
+use path_planner::{plan_group, take_plan_writes};
 use std::alloc::Global;
 
 /// Notes the reads of one plan.
@@ -74,7 +74,7 @@ fn note_plans_reads(
     for plan in plans {
         scan += 1;
         note_plan_reads(net, tree, holds, plan, scan, route, places)?;
-        advance(holds, plan);
+        take_plan_writes(holds, plan);
     }
     Ok(())
 }

@@ -93,7 +93,7 @@ impl HeldPath {
 }
 
 /// Leaves the same bits in the list. Takes no memory.
-fn fill_same(into: &mut Bits, bits: &Bits)
+fn copy_bits(into: &mut Bits, bits: &Bits)
     requires { length bits.now.items ≤ length into.old.items + into.old.spare }
     ensures items { into.new.items ≡ bits.now.items }
     ensures room { length into.new.items + into.new.spare ≡ length into.old.items + into.old.spare }
@@ -114,7 +114,7 @@ pub fn pack_tdi_on(net: &Net, _holds: &Holds, path: &HeldPath, writes: &[WriteBi
     ensures tdi { tdi.new.items ≡ chain (reverse path.now.route.items) (write_all _holds.now writes.now) }
     ensures tdi_room { length tdi.new.items + tdi.new.spare ≡ length tdi.old.items + tdi.old.spare }
 {
-    fill_same(tdi, &path.bits);
+    copy_bits(tdi, &path.bits);
     put_writes(tdi, net, path.route.regs().as_slice(), writes);
 }
 

@@ -55,7 +55,7 @@ use Rattle.svf_audit.specs.declared.answer.Cause.{Cause}
 use Rattle.svf_audit.specs.declared.answer.Cause.TheVariants.{End}
 use Rattle.svf_audit.specs.Audit.{State, Reading, Yes, No, at_end, audit_from, changed, does_writes}
 use Rattle.svf_audit.specs.Audit.{does_reads, need, need_some, note, scanned, was_reset, reset, step, has_row}
-use Rattle.svf_audit.specs.Audit.{load, pass, scan, do_group as do_due}
+use Rattle.svf_audit.specs.Audit.{load_instruction, pass, scan, do_group as do_due}
 use Rattle.svf_audit.specs.Work.{Work, Group, Cycle, Reset, due, group_first, after_reset, after_cycles}
 use Rattle.svf_audit.specs.Law.{reads_of, read_compares}
 use Rattle.svf_audit.proofs.Changing.{none_changed, writes_done}
@@ -249,7 +249,7 @@ module _ {L : Type 0} (log : Log L) (net : Net) (device : Device) (machines : Li
 
   module _ (a : State) (s : Bench L) (past : List Compare) (f : Follows a s past) where
     load_goes : (x : SeenScan) (last : Option ℕ) (b : State) → KeptAs a.ir last → FitsAfter last x
-        → load net device a x ≡ Ok b → Goes a (SIR x) s past b
+        → load_instruction net device a x ≡ Ok b → Goes a (SIR x) s past b
     load_goes x last b k fit e =
         let p = played a.ir x in
         let b0 : State = record a {

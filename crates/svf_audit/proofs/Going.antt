@@ -18,8 +18,9 @@ use Rattle.svf_audit.specs.declared.answer.Cause.TheVariants.{Length, Compare, S
 use Rattle.svf_audit.specs.declared.answer.Cause.TheVariants.{Reset}
 use Rattle.svf_audit.specs.declared.last_parts.LastParts.{LastParts}
 use Rattle.svf_audit.specs.Audit.{Reading, State, changed, compares, do_group, does_reads, does_writes}
-use Rattle.svf_audit.specs.Audit.{has_row, load, need, need_some, note, pass, reset, scan, scanned, was_reset}
-use Rattle.svf_audit.specs.Auditing.{act, ok}
+use Rattle.svf_audit.specs.Audit.{has_row, load_instruction, need, need_some, note, pass, reset, scan}
+use Rattle.svf_audit.specs.Audit.{scanned, was_reset}
+use Rattle.svf_audit.specs.Auditing.{do_scan_work, ok}
 use Rattle.svf_audit.specs.LastParts.{looked_for, seen_last, seen_tdi}
 use Rattle.svf_audit.specs.Work.{Work, Group, Cycle, Reset as ResetWork, due, group_first, after_cycles}
 use Rattle.svf_audit.specs.Work.{after_reset}
@@ -42,7 +43,7 @@ kept_looks k last x e = ap (λ z. expected z.len x.tdo z.mask) e
 module _ (net : Net) (device : Device) (a : State) (x : SeenScan) where
   -- ---- an instruction scan
 
-  pub load_length : (x.len ≡ device.ir → ⊥) → load net device a x ≡ Err Length
+  pub load_length : (x.len ≡ device.ir → ⊥) → load_instruction net device a x ≡ Err Length
   load_length h =
       ap (λ t. need t Length (need (not (compares (played a.ir x))) Compare
       (ok (record a {
@@ -52,7 +53,8 @@ module _ (net : Net) (device : Device) (a : State) (x : SeenScan) where
         scans = suc a.scans;
       })))) (ne_eqb x.len device.ir h)
 
-  pub load_compares : x.len ≡ device.ir → compares (played a.ir x) ≡ true → load net device a x ≡ Err Compare
+  pub load_compares : x.len ≡ device.ir → compares (played a.ir x) ≡ true → load_instruction net device a x
+      ≡ Err Compare
   load_compares e c =
       let next = ok (record a {
         linked = bits_eq (played a.ir x).tdi (bits_of device.ir device.opcode);
@@ -67,7 +69,13 @@ module _ (net : Net) (device : Device) (a : State) (x : SeenScan) where
       → x.len ≡ device.ir → compares (played a.ir x) ≡ false
       → linked ≡ bits_eq (played a.ir x).tdi (bits_of device.ir device.opcode)
       → ir ≡ after_scan a.ir x → scans ≡ suc a.scans
-      → load net device a x ≡ ok (record a { linked = linked; rest = InIdle; ir = ir; scans = scans })
+      → load_instruction net device a x ≡ ok (record a {
+        linked = linked;
+        rest = InIdle;
+        ir = ir;
+        scans =
+            scans;
+      })
   load_goes linked ir scans e c l k s =
       let next = ok (record a {
         linked = bits_eq (played a.ir x).tdi (bits_of device.ir device.opcode);
@@ -102,21 +110,21 @@ module _ (net : Net) (device : Device) (a : State) (x : SeenScan) where
   pub scan_length : (x.len ≡ length (chain path a.holds) → ⊥) → scan net device a x ≡ Err Length
   scan_length h =
       ap (λ t. need t Length (need (list_all (has_row after) net.muxes.items) Select
-      (act net device a x after))) (ne_eqb x.len (length (chain path a.holds)) h)
+      (do_scan_work net device a x after))) (ne_eqb x.len (length (chain path a.holds)) h)
 
   pub scan_select : x.len ≡ length (chain path a.holds)
       → list_all (has_row after) net.muxes.items ≡ false → scan net device a x ≡ Err Select
   scan_select e r =
       ap (λ t. need t Length (need (list_all (has_row after) net.muxes.items) Select
-      (act net device a x after))) (eq-eqb x.len (length (chain path a.holds)) e)
-      ∙ ap (λ t. need t Select (act net device a x after)) r
+      (do_scan_work net device a x after))) (eq-eqb x.len (length (chain path a.holds)) e)
+      ∙ ap (λ t. need t Select (do_scan_work net device a x after)) r
 
   pub scan_acts : x.len ≡ length (chain path a.holds) → list_all (has_row after) net.muxes.items ≡ true
-      → scan net device a x ≡ act net device a x after
+      → scan net device a x ≡ do_scan_work net device a x after
   scan_acts e r =
       ap (λ t. need t Length (need (list_all (has_row after) net.muxes.items) Select
-      (act net device a x after))) (eq-eqb x.len (length (chain path a.holds)) e)
-      ∙ ap (λ t. need t Select (act net device a x after)) r
+      (do_scan_work net device a x after))) (eq-eqb x.len (length (chain path a.holds)) e)
+      ∙ ap (λ t. need t Select (do_scan_work net device a x after)) r
 
 -- ---- groups
 

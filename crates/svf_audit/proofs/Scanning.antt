@@ -14,7 +14,7 @@ use Rattle.tap_machine.specs.declared.Stable.TheVariants.{Reset as InReset, Idle
 use Rattle.tap_machine.specs.Play.{after_scan, is_empty, played}
 use Rattle.svf_audit.specs.Audit.{Reading, State, bits_on, changed, compares, do_group, has_row, scan}
 use Rattle.svf_audit.specs.Audit.{scanned, was_reset}
-use Rattle.svf_audit.specs.Auditing.{act, ok, state_of, Step, Stops}
+use Rattle.svf_audit.specs.Auditing.{do_scan_work, ok, state_of, Step, Stops}
 use Rattle.svf_audit.specs.LastParts.{seen_last}
 use Rattle.svf_audit.specs.Left.{work_left}
 use Rattle.svf_audit.specs.Registers.{differs, path_in, AreShifted}
@@ -53,7 +53,7 @@ module _ (r : Registers) (s : AreShifted r) where
 
 pub act_silent : (net : Net) (device : Device) (a : State) (x : SeenScan) (now : Holds)
     → (is_empty (changed net (route_of net a.holds) a.holds now) && not (compares (played a.dr x))) ≡ true
-    → act net device a x now ≡ ok (scanned net device a x now a.readings a.left)
+    → do_scan_work net device a x now ≡ ok (scanned net device a x now a.readings a.left)
 act_silent net device a x now e =
     ap (λ t. elim t [
       | true ↦ ok (scanned net device a x now a.readings a.left)
@@ -62,7 +62,7 @@ act_silent net device a x now e =
 
 pub act_does : (net : Net) (device : Device) (a : State) (x : SeenScan) (now : Holds)
     → (is_empty (changed net (route_of net a.holds) a.holds now) && not (compares (played a.dr x))) ≡ false
-    → act net device a x now ≡ do_group net device a x now
+    → do_scan_work net device a x now ≡ do_group net device a x now
 act_does net device a x now e =
     ap (λ t. elim t [
       | true ↦ ok (scanned net device a x now a.readings a.left)
@@ -100,24 +100,25 @@ module _ (a : Auditor) (r : Registers) (x : SeenScan) (net : r.net.now ≡ a.reg
 
   -- what was done
   pub act_as : (readings more : List Reading) (left : List Work) → r.after ≡ after
-      → act r.net.now a.device.now (state_of (record a { registers = r }) readings) x r.after ≡ ok
+      → do_scan_work r.net.now a.device.now (state_of (record a { registers = r }) readings) x r.after ≡ ok
       (scanned r.net.now a.device.now (state_of (record a { registers = r }) readings) x r.after more left)
-      → act a.registers.net.now a.device.now (state_of a readings) x after
+      → do_scan_work a.registers.net.now a.device.now (state_of a readings) x after
       ≡ ok (scanned a.registers.net.now a.device.now (state_of a readings) x after more left)
   act_as readings more left s d =
       let Done : Net → Holds → Holds
-      → Type 0 = λ n h k. act n a.device.now (record (state_of a readings) { holds = h }) x k
+      → Type 0 = λ n h k. do_scan_work n a.device.now (record (state_of a readings) { holds = h }) x k
       ≡ ok (scanned n a.device.now (record (state_of a readings) { holds = h }) x k more left) in
       subst (Done a.registers.net.now a.registers.holds) s
       (subst (λ h. Done a.registers.net.now h r.after) holds (subst (λ n. Done n r.holds r.after) net d))
 
   -- why nothing was
   pub act_fails : (readings : List Reading) (cause : Cause) → r.after ≡ after
-      → act r.net.now a.device.now (state_of (record a { registers = r }) readings) x r.after ≡ Err cause
-      → act a.registers.net.now a.device.now (state_of a readings) x after ≡ Err cause
+      → do_scan_work r.net.now a.device.now (state_of (record a { registers = r }) readings) x r.after ≡ Err
+      cause
+      → do_scan_work a.registers.net.now a.device.now (state_of a readings) x after ≡ Err cause
   act_fails readings cause s d =
       let Fails : Net → Holds → Holds → Type 0 =
-      λ n h k. act n a.device.now (record (state_of a readings) { holds = h }) x k ≡ Err cause in
+      λ n h k. do_scan_work n a.device.now (record (state_of a readings) { holds = h }) x k ≡ Err cause in
       subst (Fails a.registers.net.now a.registers.holds) s (subst
       (λ h. Fails a.registers.net.now h r.after) holds (subst (λ n. Fails n r.holds r.after) net d))
 
@@ -148,7 +149,7 @@ pub scan_stops : (a : Auditor) (r : Registers) (x : SeenScan) (net : r.net.now �
     (holds : r.holds ≡ a.registers.holds) → r.after ≡ after a r x net holds
     → x.len ≡ length (chain (route_of a.registers.net.now a.registers.holds) a.registers.holds)
     → list_all (has_row (after a r x net holds)) a.registers.net.now.muxes.items ≡ true → (halt : Halt)
-    → Stops (λ n d s. act n d s x r.after) (record a { registers = r }) halt
+    → Stops (λ n d s. do_scan_work n d s x r.after) (record a { registers = r }) halt
     → Stops (λ n d s. scan n d s x) a halt
 scan_stops a r x net holds s len rows MemoryHalt h = tt
 scan_stops a r x net holds s len rows (CauseHalt cause) h =

@@ -96,8 +96,8 @@ DidGroup old new x =
     (state_of old readings) x old.registers.after more (work_left new.left)))
 
 -- what a data scan of the network does where it leaves these bits
-abbrev pub act : Net → Device → State → SeenScan → Holds → Result State Cause
-act net device a x now =
+abbrev pub do_scan_work : Net → Device → State → SeenScan → Holds → Result State Cause
+do_scan_work net device a x now =
     elim (is_empty (changed net (route_of net a.holds) a.holds now) && not (compares (played a.dr x))) [
       | true ↦ Ok (scanned net device a x now a.readings a.left)
       | false ↦ do_due net device a x now
@@ -107,7 +107,7 @@ abbrev pub DidAct : Auditor → Auditor → SeenScan → Type 0
 DidAct old new x =
     (readings : List Reading) → AreNoted old readings →
     (more : List Reading) × AreNoted new more
-    × (act old.registers.net.now old.device.now (state_of old readings) x old.registers.after
+    × (do_scan_work old.registers.net.now old.device.now (state_of old readings) x old.registers.after
     ≡ ok (scanned old.registers.net.now old.device.now
     (state_of old readings) x old.registers.after more (work_left new.left)))
 

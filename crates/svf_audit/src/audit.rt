@@ -19,7 +19,7 @@ use svf_writer::Commands;
 use tap_machine::scans_of;
 
 /// What comes of the audit after all commands.
-fn end(alloc: Global, auditor: &mut Auditor<'_>) -> Audit
+fn end_audit(alloc: Global, auditor: &mut Auditor<'_>) -> Audit
     requires { IsAuditor auditor.old }
     ensures { Ends result auditor.old }
 {
@@ -90,7 +90,7 @@ fn audited<'a>(
         auditor.old.device.now (state_of auditor.old []) commands.now)) }
 {
     match step_all(auditor, commands) {
-        Ok(()) => Ok(end(alloc, auditor)),
+        Ok(()) => Ok(end_audit(alloc, auditor)),
         Err(stop) => stopped(stop.halt, stop.scan),
     }
 }

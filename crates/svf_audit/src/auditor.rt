@@ -17,7 +17,8 @@ ghost use Rattle.svf_audit.specs.declared.answer.Cause.TheVariants as causes;
 ghost use Rattle.svf_audit.specs.declared.auditor.Halt.TheVariants as halts;
 ghost use Rattle.svf_audit.specs.Audit.{do_group as do_due, reset as reset_by, scan as scan_of, start};
 ghost use Rattle.svf_audit.specs.Audit.{step as step_of};
-ghost use Rattle.svf_audit.specs.Auditing.{act as act_of, last_dr, last_ir, state_of, AreNoted, DidAct};
+ghost use Rattle.svf_audit.specs.Auditing.{do_scan_work as act_of, last_dr, last_ir, state_of, AreNoted};
+ghost use Rattle.svf_audit.specs.Auditing.{DidAct};
 ghost use Rattle.svf_audit.specs.Auditing.{DidGroup, DidReach, DidReset, DidScan, Does, FitsNext, Follows};
 ghost use Rattle.svf_audit.specs.Auditing.{IsAuditor, Stops};
 ghost use Rattle.svf_audit.specs.LastParts.{last_length, looked_for, seen_last, AreLastParts};
@@ -156,7 +157,7 @@ impl<'a> Auditor<'a> {
     }
 
     /// An instruction scan.
-    fn load(&mut self, scan: &'a Scan) -> Result<(), Halt>
+    fn load_instruction(&mut self, scan: &'a Scan) -> Result<(), Halt>
         requires sound { IsAuditor self.old }
         requires fits { FitsAfter (last_length self.old.ir) (seen_scan scan.now) }
         requires few { self.old.scans + 1 < 2 ^ 32 }
@@ -184,7 +185,7 @@ impl<'a> Auditor<'a> {
     }
 
     /// Whether the scan at hand changes or compares a data bit.
-    fn acts(&self, kept: &LastParts, tdo: &ScanPart) -> bool
+    fn acts_on_data(&self, kept: &LastParts, tdo: &ScanPart) -> bool
         requires sound { AreRegisters self.now.registers }
         requires kept { AreLastParts kept.now }
         requires tdo { HasLength kept.now.len tdo.now }
@@ -225,13 +226,13 @@ impl<'a> Auditor<'a> {
             return Err(Halt::Cause(cause));
         }
         note(&mut self.readings, self.scans + 1, group)?;
-        self.left.go_on();
+        self.left.finish_piece();
         Ok(())
     }
 
     /// What the scan at hand does: nothing, where it changes and compares no data bit, or the group that is
     /// due.
-    fn act(&mut self, kept: &LastParts, scan: &Scan) -> Result<(), Halt>
+    fn do_scan_work(&mut self, kept: &LastParts, scan: &Scan) -> Result<(), Halt>
         requires sound { AreRegisters self.old.registers }
         requires found { AreFound self.old.registers }
         requires shifted { AreShifted self.old.registers }
@@ -253,7 +254,7 @@ impl<'a> Auditor<'a> {
         ensures within { OnOk result (IsWithin self.new.left) }
         ensures steps { self.new.left.steps ≡ self.old.left.steps }
     {
-        if !self.acts(kept, &scan.tdo) {
+        if !self.acts_on_data(kept, &scan.tdo) {
             return Ok(());
         }
         self.do_group(kept, scan)
@@ -290,7 +291,7 @@ impl<'a> Auditor<'a> {
         if !self.registers.have_rows() {
             return Err(Halt::Cause(Cause::Select));
         }
-        if let Err(halt) = self.act(kept, scan) {
+        if let Err(halt) = self.do_scan_work(kept, scan) {
             return Err(halt);
         }
         self.registers.update();
@@ -298,7 +299,7 @@ impl<'a> Auditor<'a> {
     }
 
     /// A data scan, whether it reaches the network or not.
-    fn reach(&mut self, kept: &LastParts, scan: &Scan) -> Result<(), Halt>
+    fn scan_if_reached(&mut self, kept: &LastParts, scan: &Scan) -> Result<(), Halt>
         requires sound { IsAuditor self.old }
         requires kept { AreLastParts kept.now }
         requires next { seen_last kept.now ≡ after_scan (seen_last self.old.dr) (seen_scan scan.now) }
@@ -344,7 +345,7 @@ impl<'a> Auditor<'a> {
         ensures dr { OnOk result (last_length self.new.dr ≡ Some scan.now.len) }
     {
         let kept = parts_after(self.dr, scan);
-        if let Err(halt) = self.reach(&kept, scan) {
+        if let Err(halt) = self.scan_if_reached(&kept, scan) {
             return Err(halt);
         }
         self.rest = Stable::Idle;
@@ -425,7 +426,7 @@ impl<'a> Auditor<'a> {
             ≡ last_dr (last_length self.old.dr) (seen_command command.now)) }
     {
         match command {
-            Command::Sir(scan) => self.load(scan),
+            Command::Sir(scan) => self.load_instruction(scan),
             Command::Sdr(scan) => self.data_scan(scan),
             Command::Reset => self.reset(),
             Command::Idle => {

@@ -9,7 +9,7 @@ ghost use Rattle.svf_writer.specs.SeenCommands.{seen_scan};
 ghost use Rattle.svf_audit.specs.LastParts.{AreLastParts, last_length, looked_for, seen_last, seen_tdi};
 ghost use Rattle.tap_machine.specs.Play.{after_scan, no_scan};
 
-use svf_writer::{Scan, ScanPart, lend};
+use svf_writer::{Scan, ScanPart, part_if_given};
 
 /// The length of the last scan of a kind, and the parts of the commands that it took its TDI and MASK from.
 /// Without MASK each bit is compared.
@@ -42,7 +42,7 @@ pub(crate) fn parts_after<'a>(kept: LastParts<'a>, scan: &'a Scan) -> LastParts<
     ensures sound { AreLastParts result }
     ensures last { last_length result ≡ Some scan.now.len }
 {
-    let mask = match lend(&scan.mask) {
+    let mask = match part_if_given(&scan.mask) {
         Some(mask) => Some(mask),
         None => if kept.len == scan.len {
             kept.mask
@@ -50,7 +50,7 @@ pub(crate) fn parts_after<'a>(kept: LastParts<'a>, scan: &'a Scan) -> LastParts<
             None
         },
     };
-    let tdi = match lend(&scan.tdi) {
+    let tdi = match part_if_given(&scan.tdi) {
         Some(tdi) => Some(tdi),
         None => kept.tdi,
     };

@@ -254,7 +254,7 @@ impl<'a> Registers<'a> {
     }
 
     /// Puts one bit of TDI on the path.
-    fn turn(&mut self, kept: &LastParts, k: u32)
+    fn put_tdi_bit(&mut self, kept: &LastParts, k: u32)
         requires kept { AreLastParts kept.now }
         requires turned { IsTurned self.old (seen_tdi kept.now) k }
         requires within { k < length self.old.chain.items }
@@ -288,7 +288,7 @@ impl<'a> Registers<'a> {
             ≡ record self.old { chain = self.new.chain; after = self.new.after; moved = self.new.moved } }
     {
         for i in 0..n {
-            self.turn(kept, from + i);
+            self.put_tdi_bit(kept, from + i);
         }
     }
 

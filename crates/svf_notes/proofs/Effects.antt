@@ -7,7 +7,8 @@ use Rattle.svf_writer.specs.SeenCommands.{SIR, SDR, Reset, Idle, Run, SeenComman
 use Rattle.svf_reader.specs.Texts.{after_word, words}
 use Rattle.svf_reader.specs.Commands.{Parts, SeenParsed, Scans, ToReset, ToIdle, Runs, NoEffect}
 use Rattle.svf_reader.specs.Commands.{command_of_words, cycles, end_states, headers, is_frequency, is_one_of}
-use Rattle.svf_reader.specs.Commands.{is_scan, is_trst, is_word, left_out, no_effect_if, no_parts, number}
+use Rattle.svf_reader.specs.Commands.{is_scan, is_trst, eq_ignore_case, left_out, no_effect_if, no_parts}
+use Rattle.svf_reader.specs.Commands.{number}
 use Rattle.svf_reader.specs.Commands.{parsed_by, parts, run_test, scan, scan_of, state, words_are}
 use Rattle.svf_reader.specs.Meaning.{Cause, SvfLimit, HexWide, TdiMissing, Step, effect_of, if_parsed}
 use Rattle.svf_reader.specs.Meaning.{read_command, scan_command, scan_with, scanned, unless_left_out}
@@ -84,7 +85,7 @@ cycles_say (n ∷ ws) =
 run_says : (ws : List (List ℕ)) → Says false (run_test ws)
 unfolding run_test
 run_says [] = tt
-run_says (w ∷ ws) = either_says (is_word (codes "IDLE") w) (cycles ws)
+run_says (w ∷ ws) = either_says (eq_ignore_case (codes "IDLE") w) (cycles ws)
     (cycles (w ∷ ws)) (cycles_say ws) (cycles_say (w ∷ ws))
 
 first_says : (a b : Bool) (x y z : Option SeenParsed) → Says true x → Says true y
@@ -96,25 +97,25 @@ first_says false false x y z hx hy hz = hz
 word_says : (w : List ℕ) (ws : List (List ℕ)) → Says (is_scan (w ∷ ws)) (parsed_by w ws)
 unfolding parsed_by
 word_says w ws =
-    let x8 : Option SeenParsed = cond (is_word (codes "TRST") w) (no_effect_if (is_trst ws)) None in
-    let x7 : Option SeenParsed = cond (is_word (codes "FREQUENCY") w) (no_effect_if (is_frequency ws)) x8 in
+    let x8 : Option SeenParsed = cond (eq_ignore_case (codes "TRST") w) (no_effect_if (is_trst ws)) None in
+    let x7 : Option SeenParsed = cond (eq_ignore_case (codes "FREQUENCY") w) (no_effect_if (is_frequency ws)) x8 in
     let x6 : Option SeenParsed =
     cond (is_one_of end_states w) (no_effect_if (words_are (codes "IDLE" ∷ []) ws)) x7 in
-    let x5 : Option SeenParsed = cond (is_word (codes "RUNTEST") w) (run_test ws) x6 in
-    let x4 : Option SeenParsed = cond (is_word (codes "STATE") w) (state ws) x5 in
+    let x5 : Option SeenParsed = cond (eq_ignore_case (codes "RUNTEST") w) (run_test ws) x6 in
+    let x4 : Option SeenParsed = cond (eq_ignore_case (codes "STATE") w) (state ws) x5 in
     let x3 : Option SeenParsed =
     cond (is_one_of headers w) (no_effect_if (words_are (codes "0" ∷ []) ws)) x4 in
-    let h8 : Says false x8 = either_says (is_word (codes "TRST") w)
+    let h8 : Says false x8 = either_says (eq_ignore_case (codes "TRST") w)
     (no_effect_if (is_trst ws)) None (effect_says (is_trst ws)) tt in
-    let h7 : Says false x7 = either_says (is_word (codes "FREQUENCY") w)
+    let h7 : Says false x7 = either_says (eq_ignore_case (codes "FREQUENCY") w)
     (no_effect_if (is_frequency ws)) x8 (effect_says (is_frequency ws)) h8 in
     let h6 : Says false x6 = either_says (is_one_of end_states w) (no_effect_if
     (words_are (codes "IDLE" ∷ []) ws)) x7 (effect_says (words_are (codes "IDLE" ∷ []) ws)) h7 in
-    let h5 : Says false x5 = either_says (is_word (codes "RUNTEST") w) (run_test ws) x6 (run_says ws) h6 in
-    let h4 : Says false x4 = either_says (is_word (codes "STATE") w) (state ws) x5 (state_says ws) h5 in
+    let h5 : Says false x5 = either_says (eq_ignore_case (codes "RUNTEST") w) (run_test ws) x6 (run_says ws) h6 in
+    let h4 : Says false x4 = either_says (eq_ignore_case (codes "STATE") w) (state ws) x5 (state_says ws) h5 in
     let h3 : Says false x3 = either_says (is_one_of headers w)
     (no_effect_if (words_are (codes "0" ∷ []) ws)) x4 (effect_says (words_are (codes "0" ∷ []) ws)) h4 in
-    first_says (is_word (codes "SIR") w) (is_word (codes "SDR") w) _ _ x3
+    first_says (eq_ignore_case (codes "SIR") w) (eq_ignore_case (codes "SDR") w) _ _ x3
     (words_say _ ws (λ s. refl)) (words_say _ ws (λ s. refl)) h3
 
 says : (ws : List (List ℕ)) → Says (is_scan ws) (command_of_words ws)

@@ -8,7 +8,8 @@ use Rattle.tap_machine.specs.declared.TapState.TheVariants.{Exit1Dr, SelectIrSca
 use Rattle.tap_machine.specs.declared.TapState.TheVariants.{Exit1Ir}
 use Rattle.tap_machine.specs.Tap.{next}
 use Rattle.tap_machine.specs.Play.{no_shift, shifts}
-use Rattle.net_bench.specs.Bench.{Chip, State, act, capture_bits, clock, dr_bits, enter, put_dr, select_of}
+use Rattle.net_bench.specs.Bench.{Chip, State, begin_clock, capture_bits, clock, dr_bits, end_clock, put_dr}
+use Rattle.net_bench.specs.Bench.{select_of}
 use Rattle.net_bench.specs.Instruction.{Selected, Network, Identity, Bypass}
 use Rattle.net_bench.specs.Playing.{after_pins}
 use Rattle.net_graph.specs.Chain.{shift}
@@ -45,7 +46,10 @@ module _ (chip : Chip Counts) where
 
   -- a clock, by the state of the controller in which it comes
   abbrev pub clock_in : TapState → Bool → Bool → State Counts → State Counts
-  clock_in tap tms tdi s = enter chip tap (next tap tms) (record (act chip tap tdi s) { tap = next tap tms })
+  clock_in tap tms tdi s = end_clock chip tap (next tap tms) (record (begin_clock chip tap tdi s) {
+    tap =
+        next tap tms;
+  })
 
   clock_is : (tap : TapState) (tms tdi : Bool) (s : State Counts) → s.tap ≡ tap
       → clock chip tms tdi s ≡ clock_in tap tms tdi s

@@ -17,7 +17,7 @@ ghost use Rattle.tap_machine.specs.Play.{scans_in};
 
 use crate::playing::Playing;
 use ij_bits::{List, OutOfMemory};
-use ij_io::{Shelf, Sink, StoreFault, SureSink, next_piece, put_last_piece};
+use ij_io::{Shelf, Sink, StoreFault, SureSink, put_last_piece, store_full_piece};
 use instruments::Model;
 use net_graph::{Device, Net};
 use std::alloc::Global;
@@ -132,7 +132,7 @@ fn put_text<S: Shelf>(
     let mut rest = src;
     while let Some(next) = next_text(rest) {
         add_command(playing, next.piece, next.rest, &mut piece)?;
-        piece = next_piece(alloc, name, piece, shelf)?;
+        piece = store_full_piece(alloc, name, piece, shelf)?;
         rest = next.rest;
     }
     add(rest, &mut piece)?;

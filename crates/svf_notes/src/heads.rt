@@ -116,7 +116,12 @@ impl<'a> Heads<'a> {
 
     /// Writes what the row of a register begins with, up to its values, where its position 0 is this one of
     /// the scan.
-    pub(crate) fn put(&mut self, reg: u32, at: u32, note: &mut SureSink) -> Result<(), StoreFault>
+    pub(crate) fn put_row_head(
+        &mut self,
+        reg: u32,
+        at: u32,
+        note: &mut SureSink,
+    ) -> Result<(), StoreFault>
         requires well_formed { IsNet self.old }
         requires there { reg < length self.old.regs.items }
         ensures same { self.new ≡ self.old }

@@ -22,5 +22,5 @@ pub use laws::{
     commands_stay, explained_commands_stay, notes_follow_their_scans, read_scans_are_numbered,
     read_scans_have_bits, scans_are_numbered, scans_begin, scans_compare, scans_keep_their_path,
 };
-pub use most::explained_most;
+pub use most::explained_len_bound;
 pub use place::{BitAnswer, FoundBit, find_bit};

@@ -17,7 +17,7 @@ use std::alloc::Global;
 use svf_writer::{Command, Commands};
 
 /// Writes the path and the range of a register.
-fn put_named(net: &Net, reg: u32, name: &mut SureSink) -> Result<(), StoreFault>
+fn put_register_name(net: &Net, reg: u32, name: &mut SureSink) -> Result<(), StoreFault>
     requires well_formed { IsNet net.now }
     requires there { reg < length net.now.regs.items }
     ensures { OnOk result (Adds (Some name.old) (Some name.new) (most.named net.now reg)) }
@@ -28,13 +28,13 @@ fn put_named(net: &Net, reg: u32, name: &mut SureSink) -> Result<(), StoreFault>
 }
 
 /// The length of a register's path and range.
-fn named_len(alloc: Global, net: &Net, reg: u32) -> Result<u64, OutOfMemory>
+fn register_name_len(alloc: Global, net: &Net, reg: u32) -> Result<u64, OutOfMemory>
     requires well_formed { IsNet net.now }
     requires there { reg < length net.now.regs.items }
     ensures { IfOk result (λ len. len ≡ length (most.named net.now reg)) }
 {
     let mut name = SureSink::new(alloc);
-    match put_named(net, reg, &mut name) {
+    match put_register_name(net, reg, &mut name) {
         Ok(()) => Ok(name.bytes().len() as u64),
         Err(_) => Err(OutOfMemory),
     }
@@ -48,13 +48,13 @@ fn longest_name(alloc: Global, net: &Net) -> Result<u64, OutOfMemory>
     let count = register_count(net);
     let mut longest = 0u64;
     for reg in 0..count {
-        longest = longest.max(named_len(alloc, net, reg)?);
+        longest = longest.max(register_name_len(alloc, net, reg)?);
     }
     Ok(longest)
 }
 
 /// At least as many bytes as the rows of a scan of this many bits have for its registers' names and words.
-fn names_most(regs: u64, name: u64, bits: u32) -> u64
+fn names_len_bound(regs: u64, name: u64, bits: u32) -> u64
     ensures { min (min bits regs * (51 + name)) (2 ^ 64 - 1) ≤ result }
 {
     u64::from(bits)
@@ -63,22 +63,22 @@ fn names_most(regs: u64, name: u64, bits: u32) -> u64
 }
 
 /// At least as many bytes as the note of a scan of this many bits has.
-fn scan_most(device: &Device, regs: u64, name: u64, bits: u32) -> u64
+fn scan_note_len_bound(device: &Device, regs: u64, name: u64, bits: u32) -> u64
     ensures { min (most.most_of_scan device.now regs name bits) (2 ^ 64 - 1) ≤ result }
 {
     let _ir = device.ir;
     let digits = 77 + 3 * u64::from(bits);
-    digits.saturating_add(names_most(regs, name, bits))
+    digits.saturating_add(names_len_bound(regs, name, bits))
 }
 
 /// At least as many bytes as the note of a command has, if it is a scan.
-fn command_most(device: &Device, regs: u64, name: u64, command: &Command) -> u64
+fn command_note_len_bound(device: &Device, regs: u64, name: u64, command: &Command) -> u64
     ensures { min (most.most_of_command device.now regs name (seen_command command.now)) (2 ^ 64 - 1)
         ≤ result }
 {
     match command {
-        Command::Sir(scan) => scan_most(device, regs, name, scan.len),
-        Command::Sdr(scan) => scan_most(device, regs, name, scan.len),
+        Command::Sir(scan) => scan_note_len_bound(device, regs, name, scan.len),
+        Command::Sdr(scan) => scan_note_len_bound(device, regs, name, scan.len),
         Command::Reset => 0,
         Command::Idle => 0,
         Command::Run(_) => 0,
@@ -86,12 +86,12 @@ fn command_most(device: &Device, regs: u64, name: u64, command: &Command) -> u64
 }
 
 /// At least as many bytes as all notes have.
-fn notes_most(device: &Device, regs: u64, name: u64, commands: &Commands) -> u64
+fn notes_len_bound(device: &Device, regs: u64, name: u64, commands: &Commands) -> u64
     ensures { min (most.most_of device.now regs name commands.now) (2 ^ 64 - 1) ≤ result }
 {
     let mut sum = 0u64;
     for i in 0..commands.len() {
-        sum = sum.saturating_add(command_most(device, regs, name, commands.get(i)));
+        sum = sum.saturating_add(command_note_len_bound(device, regs, name, commands.get(i)));
     }
     sum
 }
@@ -102,7 +102,7 @@ fn notes_most(device: &Device, regs: u64, name: u64, commands: &Commands) -> u64
 /// # Errors
 ///
 /// `OutOfMemory`, where there is no memory for a register's name.
-pub fn explained_most(
+pub fn explained_len_bound(
     alloc: Global,
     net: &Net,
     device: &Device,
@@ -120,6 +120,6 @@ pub fn explained_most(
     let _count = commands.len();
     let name = longest_name(alloc, net)?;
     let count = register_count(net);
-    let notes = notes_most(device, u64::from(count), name, commands);
+    let notes = notes_len_bound(device, u64::from(count), name, commands);
     Ok(notes.saturating_add(src.len() as u64))
 }

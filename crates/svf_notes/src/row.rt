@@ -18,7 +18,7 @@ use ij_io::{Sink, StoreFault, SureSink};
 use net_graph::Holds;
 
 /// Writes some words, if they hold.
-fn put_if(holds: bool, words: &[u8], note: &mut SureSink) -> Result<(), StoreFault>
+fn put_words_if(holds: bool, words: &[u8], note: &mut SureSink) -> Result<(), StoreFault>
     ensures { OnOk result (Adds (Some note.old) (Some note.new) (cond holds words.now [])) }
 {
     if holds { note.write(words) } else { Ok(()) }
@@ -54,7 +54,7 @@ fn put_values(held: &Bits, bits: &ScanBits, at: u32, note: &mut SureSink) -> Res
 {
     let width = held.len();
     put_digits(Shown::Written, bits, at, width, note)?;
-    put_if(bits.is_held(at, held), b" as before", note)?;
+    put_words_if(bits.is_held(at, held), b" as before", note)?;
     let compared = bits.any_compared(at, width);
     put_shown_if(
         compared,
@@ -87,7 +87,7 @@ fn put_row(
     ensures row { OnOk result (Adds (Some note.old) (Some note.new) (codes "\n!:" ++ notes.row heads.old reg
         at held.now.items (take (length held.now.items) (drop at bits.now.items)))) }
 {
-    heads.put(reg, at, note)?;
+    heads.put_row_head(reg, at, note)?;
     put_values(held, bits, at, note)?;
     Ok(())
 }

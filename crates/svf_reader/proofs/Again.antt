@@ -10,7 +10,8 @@ use Rattle.ij_bits.specs.Hex.{hex_digit}
 use Rattle.svf_writer.specs.Written.{next_column, hex_lines, hex_text}
 use Rattle.ij_text.specs.Bytes.{is_blank}
 use Rattle.ij_text.specs.Parts.{before, longer}
-use Rattle.svf_reader.specs.Texts.{first, in_comment, plain_from, plain, texts, is_mark, in_word, goes_on}
+use Rattle.svf_reader.specs.Texts.{first, in_comment, plain_from, plain, texts, is_parenthesis, in_word}
+use Rattle.svf_reader.specs.Texts.{goes_on}
 use Rattle.svf_reader.specs.Texts.{cut, words}
 use Rattle.svf_reader.specs.Commands.{is_close, after_hex, hex_digits}
 use Rattle.svf_reader.proofs.Digits.{is_quiet, IsDigit, a_digit, hex_list}
@@ -100,7 +101,7 @@ abbrev pub squeezed : List ℕ → List ℕ
 squeezed [] = []
 squeezed (b ∷ bs) = cond (b == 10) (squeezed bs) (b ∷ squeezed bs)
 
-pub no_close : (b : ℕ) (bs : List ℕ) → is_mark b ≡ false → is_close (b ∷ bs) ≡ false
+pub no_close : (b : ℕ) (bs : List ℕ) → is_parenthesis b ≡ false → is_close (b ∷ bs) ≡ false
 no_close b bs h = cases (b == 40) (b == 41) h
   where
     cases : (p q : Bool) → (p || q) ≡ false → (q && bytes_eq bs []) ≡ false
@@ -108,16 +109,16 @@ no_close b bs h = cases (b == 40) (b == 41) h
     cases false true h = absurd (cc)
     cases false false h = refl
 
-mark_of_word : (b : ℕ) → in_word is_mark b ≡ true → is_mark b ≡ false
-mark_of_word b h = cases (is_blank b) (is_mark b) h
+mark_of_word : (b : ℕ) → in_word is_parenthesis b ≡ true → is_parenthesis b ≡ false
+mark_of_word b h = cases (is_blank b) (is_parenthesis b) h
   where
     cases : (p q : Bool) → not (p || q) ≡ true → q ≡ false
     cases true q h = absurd (cc)
     cases false true h = absurd (cc)
     cases false false h = refl
 
-blank_of_word : (b : ℕ) → in_word is_mark b ≡ true → is_blank b ≡ false
-blank_of_word b h = cases (is_blank b) (is_mark b) h
+blank_of_word : (b : ℕ) → in_word is_parenthesis b ≡ true → is_blank b ≡ false
+blank_of_word b h = cases (is_blank b) (is_parenthesis b) h
   where
     cases : (p q : Bool) → not (p || q) ≡ true → p ≡ false
     cases true q h = absurd (cc)
@@ -130,13 +131,18 @@ longer_first true b [] = ([], [], refl)
 longer_first true b (w ∷ ws) = (w, ws, refl)
 
 -- the first word, where the text goes on, is none that closes
-first_word : (xs : List ℕ) → goes_on is_mark xs ≡ true
+first_word : (xs : List ℕ) → goes_on is_parenthesis xs ≡ true
     → (w : List ℕ) × (ws : List (List ℕ)) × (words xs ≡ w ∷ ws) × (is_close w ≡ false)
 first_word [] h = absurd (cc)
 first_word (c ∷ xs) h =
     let mark = mark_of_word c h in
-    let first = longer_first (goes_on is_mark xs) c (words xs) in
-    (c ∷ first.0, first.1, byte_in is_mark c xs (blank_of_word c h) mark ∙ first.2, no_close c first.0 mark)
+    let first = longer_first (goes_on is_parenthesis xs) c (words xs) in (
+      c ∷ first.0,
+      first.1,
+      byte_in is_parenthesis c xs (blank_of_word c h) mark ∙ first.2,
+      no_close c
+          first.0 mark,
+    )
 
 -- a hexadecimal text, its `)` and what follows
 pub record HexRead (text : List (List ℕ)) (digits : List ℕ) (rest : List (List ℕ)) : Type 0 where
@@ -172,12 +178,12 @@ word_value w ws close = ap (λ k. cond k [] (w ++ hex_digits ws)) close
 
 -- a digit before, at either start
 digit_front : (b v : ℕ) (xs : List ℕ) (g : Bool) (digits : List ℕ) (rest : List (List ℕ)) → IsDigit b v
-    → goes_on is_mark xs ≡ g → HexRead (words xs) digits rest
+    → goes_on is_parenthesis xs ≡ g → HexRead (words xs) digits rest
     → (hex_digits (words (b ∷ xs)) ≡ b ∷ digits)
     × ((some : Bool) → after_hex some (words (b ∷ xs)) ≡ Some rest)
 digit_front b v xs false digits rest is eg read =
     let here : words (b ∷ xs) ≡ (b ∷ []) ∷ words xs =
-    byte_in is_mark b xs is.blank is.mark ∙ ap (λ g. longer g b (words xs)) eg in
+    byte_in is_parenthesis b xs is.blank is.mark ∙ ap (λ g. longer g b (words xs)) eg in
     let close = no_close b [] is.mark in
     let all : list_all is_ascii_hexdigit (b ∷ []) ≡ true = ap (λ k. k && true) is.hex in (
       ap hex_digits here ∙ word_value (b ∷ []) (words xs) close ∙ ap (λ (l : List ℕ). b ∷ l) read.digits_are,
@@ -187,7 +193,7 @@ digit_front b v xs true digits rest is eg read =
     let first = first_word xs eg in
     let w = first.0 in
     let ws = first.1 in
-    let here : words (b ∷ xs) ≡ (b ∷ w) ∷ ws = byte_in is_mark b xs is.blank is.mark
+    let here : words (b ∷ xs) ≡ (b ∷ w) ∷ ws = byte_in is_parenthesis b xs is.blank is.mark
     ∙ ap (λ g. longer g b (words xs)) eg ∙ ap (λ l. longer true b l) first.2 in
     let close = no_close b w is.mark in
     let part = word_digits w ws rest (list_all is_ascii_hexdigit w) first.3 refl
@@ -205,7 +211,7 @@ hex_read (b ∷ bs) t (inl e, hex) =
     subst (λ (c : ℕ). HexRead (words (c ∷ (bs ++ (41 ∷ t)))) (squeezed (c ∷ bs)) (words t)) (sym e)
     (let read = hex_read bs t hex in record { digits_are = read.digits_are; after = read.after })
 hex_read (b ∷ bs) t (inr (v, is), hex) =
-    let front = digit_front b v (bs ++ (41 ∷ t)) (goes_on is_mark (bs ++ (41 ∷ t))) (squeezed bs)
+    let front = digit_front b v (bs ++ (41 ∷ t)) (goes_on is_parenthesis (bs ++ (41 ∷ t))) (squeezed bs)
     (words t) is refl (hex_read bs t hex) in
     record {
       digits_are = front.0 ∙ sym (ap (λ k. cond k (squeezed bs) (b ∷ squeezed bs)) is.end);
@@ -275,7 +281,8 @@ lines_read : (bits : List Bool) (d e : ℕ) (t : List ℕ) → d ≡ suc e
 lines_read bits d e t is =
     let rest = hex_lines bits e 1 in
     let read = hex_read rest t (lines_hex bits e 1 false refl) in
-    let front = digit_front (hex_digit bits e) _ (rest ++ (41 ∷ t)) (goes_on is_mark (rest ++ (41 ∷ t)))
+    let front = digit_front (hex_digit bits e) _ (rest ++ (41 ∷ t)) (goes_on is_parenthesis (rest ++ (41 ∷
+    t)))
     (squeezed rest) (words t) (a_digit bits e) refl read in
     subst (λ (k : ℕ). PartRead (words (hex_lines bits k 0 ++ (41 ∷ t))) (hex_list bits k) (words t)) (sym is)
     (record {

@@ -12,7 +12,7 @@ use Rattle.std.proofs.lemmas.Fmt.{decimal_by_steps, length-decimal-le, decimal_n
 use Rattle.ij_bits.specs.BitLists.{bits_of, number_of, has_one}
 use Rattle.ij_bits.specs.Hex.{hex_code, hex_digit}
 use Rattle.ij_text.specs.Bytes.{is_blank}
-use Rattle.svf_reader.specs.Texts.{is_mark}
+use Rattle.svf_reader.specs.Texts.{is_parenthesis}
 use Rattle.svf_reader.specs.Commands.{number_from, number}
 use Rattle.ij_text.specs.Numbers.{hex_value as digit_value}
 use Rattle.svf_reader.specs.Values.{hex_bits, fitted, is_wide}
@@ -29,7 +29,7 @@ is_quiet b = not (b == 33 || (b == 47 || b == 59))
 pub record IsDigit (b v : ℕ) : Type 0 where
   pub hex : is_ascii_hexdigit b ≡ true
   pub blank : is_blank b ≡ false
-  pub mark : is_mark b ≡ false
+  pub mark : is_parenthesis b ≡ false
   pub quiet : is_quiet b ≡ true
   pub end : (b == 10) ≡ false
   pub value : digit_value b ≡ v
@@ -184,7 +184,7 @@ number_push m (x ∷ xs) d = number_push (10 * m + (x - 48)) xs d
 pub record IsDecimal (b : ℕ) : Type 0 where
   pub digit : is_ascii_digit b ≡ true
   pub blank : is_blank b ≡ false
-  pub mark : is_mark b ≡ false
+  pub mark : is_parenthesis b ≡ false
   pub quiet : is_quiet b ≡ true
   pub letter : (nat_lt b 65) ≡ true
 

@@ -12,7 +12,7 @@ use Rattle.svf_reader.specs.Texts.{words, after_word, texts, plain, blanks}
 use Rattle.svf_writer.specs.Clocks.{clocks_from}
 use Rattle.svf_reader.specs.Meaning.{Cause, SvfLimit, SvfSyntax, HexWide, TdiMissing, LeftOut, Refusal, Step}
 use Rattle.svf_reader.specs.Meaning.{at_first, with_length, last_length, with_leaving_clock, scan_clocks}
-use Rattle.svf_reader.specs.Meaning.{within_clock_limit, any_wide, tdi_missing, scan_with, scan_command}
+use Rattle.svf_reader.specs.Meaning.{emit_within_clock_limit, any_wide, tdi_missing, scan_with, scan_command}
 use Rattle.svf_reader.specs.Meaning.{scanned, effect_of, if_parsed, unless_left_out, read_command, listed}
 use Rattle.svf_reader.specs.Meaning.{before, at_end, and_then, read_from, svf}
 use Rattle.svf_reader.specs.Scripts.{ReadCommandsAreWithinLimits}
@@ -43,7 +43,7 @@ no_step cause step A e = absurd (cc)
 clocked_counts : (kept k : ReadSoFar) (in_reset : Bool) (n : ℕ) (c : SeenCommand) (step : Step)
     → k.clocks ≡ kept.clocks
     → ((ds : List SeenCommand) → clocks_from kept.in_reset (c ∷ ds) ≡ n + clocks_from in_reset ds)
-    → within_clock_limit k in_reset n c ≡ Ok step → Counts kept step
+    → emit_within_clock_limit k in_reset n c ≡ Ok step → Counts kept step
 clocked_counts kept k in_reset n c step same clocks e = cases (nat_le (k.clocks + n) 1000000000) refl e
   where
     cases : (b : Bool) → nat_le (k.clocks + n) 1000000000 ≡ b → cond b
@@ -64,7 +64,7 @@ scanned_counts : (kept : ReadSoFar) (register : Register) (len : ℕ) (p : Parts
     → scanned kept register len p ≡ Ok step → Counts kept step
 unfolding scanned
 scanned_counts kept Instruction len p step e =
-    let r = within_clock_limit (with_length Instruction len kept) false (with_leaving_clock kept
+    let r = emit_within_clock_limit (with_length Instruction len kept) false (with_leaving_clock kept
     (scan_clocks Instruction len)) (scan_command Instruction (scan_with len p)) in
     let third = peel (tdi_missing (last_length Instruction kept) len p) TdiMissing r step in
     let second = peel (any_wide len p) HexWide
@@ -73,7 +73,7 @@ scanned_counts kept Instruction len p step e =
     (SIR (scan_with len p)) step refl (λ ds. refl)
     (third (second (peel (nat_lt 65536 len) SvfLimit _ step e)))
 scanned_counts kept Data len p step e =
-    let r = within_clock_limit (with_length Data len kept) false
+    let r = emit_within_clock_limit (with_length Data len kept) false
     (with_leaving_clock kept (scan_clocks Data len)) (scan_command Data (scan_with len p)) in
     let third = peel (tdi_missing (last_length Data kept) len p) TdiMissing r step in
     let second = peel (any_wide len p) HexWide

@@ -12,12 +12,13 @@ use Rattle.svf_reader.specs.declared.parsed.Register.TheVariants.{Instruction, D
 use Rattle.svf_reader.specs.declared.so_far.ReadSoFar.{ReadSoFar}
 use Rattle.svf_reader.specs.Texts.{words, after_word}
 use Rattle.svf_reader.specs.Values.{fitted, hex_bits}
-use Rattle.svf_reader.specs.Commands.{Parts, SeenParsed, Scans, ToReset, ToIdle, Runs, NoEffect, is_word}
+use Rattle.svf_reader.specs.Commands.{Parts, SeenParsed, Scans, ToReset, ToIdle, Runs, NoEffect}
+use Rattle.svf_reader.specs.Commands.{eq_ignore_case}
 use Rattle.svf_reader.specs.Commands.{is_one_of, words_are, number, parts, no_parts, scan_of, scan, state}
 use Rattle.svf_reader.specs.Commands.{cycles, run_test, is_frequency, is_trst, no_effect_if, headers}
 use Rattle.svf_reader.specs.Commands.{end_states, parsed_by, command_of_words, left_out}
 use Rattle.svf_reader.specs.Meaning.{Cause, SvfSyntax, SvfLimit, HexWide, TdiMissing, Step, last_length}
-use Rattle.svf_reader.specs.Meaning.{with_length, with_leaving_clock, scan_clocks, within_clock_limit}
+use Rattle.svf_reader.specs.Meaning.{with_length, with_leaving_clock, scan_clocks, emit_within_clock_limit}
 use Rattle.svf_reader.specs.Meaning.{part_of, scan_with, scan_command, other_length, tdi_missing, scanned}
 use Rattle.svf_reader.specs.Meaning.{effect_of, if_parsed, unless_left_out, read_command, listed}
 
@@ -85,34 +86,34 @@ cycles_sized (n ∷ ws) = either_sized
 run_test_sized : (ws : List (List ℕ)) → IsSized (run_test ws)
 unfolding run_test
 run_test_sized [] = tt
-run_test_sized (w ∷ ws) = either_sized (is_word (codes "IDLE") w) (cycles ws) (cycles (w ∷ ws))
+run_test_sized (w ∷ ws) = either_sized (eq_ignore_case (codes "IDLE") w) (cycles ws) (cycles (w ∷ ws))
     (cycles_sized ws) (cycles_sized (w ∷ ws))
 
 parsed_by_sized : (w : List ℕ) (ws : List (List ℕ)) → IsSized (parsed_by w ws)
 unfolding parsed_by
 parsed_by_sized w ws =
-    let x8 : Option SeenParsed = cond (is_word (codes "TRST") w) (no_effect_if (is_trst ws)) None in
-    let x7 : Option SeenParsed = cond (is_word (codes "FREQUENCY") w) (no_effect_if (is_frequency ws)) x8 in
+    let x8 : Option SeenParsed = cond (eq_ignore_case (codes "TRST") w) (no_effect_if (is_trst ws)) None in
+    let x7 : Option SeenParsed = cond (eq_ignore_case (codes "FREQUENCY") w) (no_effect_if (is_frequency ws)) x8 in
     let x6 : Option SeenParsed =
     cond (is_one_of end_states w) (no_effect_if (words_are (codes "IDLE" ∷ []) ws)) x7 in
-    let x5 : Option SeenParsed = cond (is_word (codes "RUNTEST") w) (run_test ws) x6 in
-    let x4 : Option SeenParsed = cond (is_word (codes "STATE") w) (state ws) x5 in
+    let x5 : Option SeenParsed = cond (eq_ignore_case (codes "RUNTEST") w) (run_test ws) x6 in
+    let x4 : Option SeenParsed = cond (eq_ignore_case (codes "STATE") w) (state ws) x5 in
     let x3 : Option SeenParsed =
     cond (is_one_of headers w) (no_effect_if (words_are (codes "0" ∷ []) ws)) x4 in
-    let x2 : Option SeenParsed = cond (is_word (codes "SDR") w) (scan Data ws) x3 in
+    let x2 : Option SeenParsed = cond (eq_ignore_case (codes "SDR") w) (scan Data ws) x3 in
     let h8 : IsSized x8 =
-    either_sized (is_word (codes "TRST") w) (no_effect_if (is_trst ws)) None (so_sized (is_trst ws)) tt in
-    let h7 : IsSized x7 = either_sized (is_word (codes "FREQUENCY") w)
+    either_sized (eq_ignore_case (codes "TRST") w) (no_effect_if (is_trst ws)) None (so_sized (is_trst ws)) tt in
+    let h7 : IsSized x7 = either_sized (eq_ignore_case (codes "FREQUENCY") w)
     (no_effect_if (is_frequency ws)) x8 (so_sized (is_frequency ws)) h8 in
     let h6 : IsSized x6 = either_sized (is_one_of end_states w) (no_effect_if
     (words_are (codes "IDLE" ∷ []) ws)) x7 (so_sized (words_are (codes "IDLE" ∷ []) ws)) h7 in
     let h5 : IsSized x5 =
-    either_sized (is_word (codes "RUNTEST") w) (run_test ws) x6 (run_test_sized ws) h6 in
-    let h4 : IsSized x4 = either_sized (is_word (codes "STATE") w) (state ws) x5 (state_sized ws) h5 in
+    either_sized (eq_ignore_case (codes "RUNTEST") w) (run_test ws) x6 (run_test_sized ws) h6 in
+    let h4 : IsSized x4 = either_sized (eq_ignore_case (codes "STATE") w) (state ws) x5 (state_sized ws) h5 in
     let h3 : IsSized x3 = either_sized (is_one_of headers w) (no_effect_if (words_are (codes "0" ∷ []) ws)) x4
     (so_sized (words_are (codes "0" ∷ []) ws)) h4 in
-    let h2 : IsSized x2 = either_sized (is_word (codes "SDR") w) (scan Data ws) x3 (scan_sized Data ws) h3 in
-    either_sized (is_word (codes "SIR") w) (scan Instruction ws) x2 (scan_sized Instruction ws) h2
+    let h2 : IsSized x2 = either_sized (eq_ignore_case (codes "SDR") w) (scan Data ws) x3 (scan_sized Data ws) h3 in
+    either_sized (eq_ignore_case (codes "SIR") w) (scan Instruction ws) x2 (scan_sized Instruction ws) h2
 
 parsed_sized : (ws : List (List ℕ)) → IsSized (command_of_words ws)
 unfolding command_of_words
@@ -167,7 +168,7 @@ follows_at kept x y h e = let same : x ≡ y = cc in subst (λ (s : Step). Follo
 
 clocked_follows : (kept kept' : ReadSoFar) (in_reset : Bool) (n : ℕ) (command : SeenCommand) (step : Step)
     → Follows kept (Some command, kept')
-    → within_clock_limit kept' in_reset n command ≡ Ok step → Follows kept step
+    → emit_within_clock_limit kept' in_reset n command ≡ Ok step → Follows kept step
 clocked_follows kept kept' in_reset n command step h e =
     follows_at kept (Some command, record kept' { in_reset = in_reset; clocks = kept'.clocks + n }) step h
     (cond_ok' _ SvfLimit _ step e).1

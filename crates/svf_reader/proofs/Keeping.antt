@@ -7,7 +7,7 @@ use Rattle.std.specs.Str.{str_to_ascii_lowercase}
 use Rattle.svf_reader.specs.declared.so_far.ReadSoFar.{ReadSoFar}
 use Rattle.svf_reader.specs.Texts.{words, runs, after_word}
 use Rattle.svf_reader.specs.Meaning.{Cause, SvfSyntax, Step, if_parsed, unless_left_out, read_command}
-use Rattle.svf_reader.specs.Commands.{is_word, is_one_of, begins_with_length, begins_with_on, headers}
+use Rattle.svf_reader.specs.Commands.{eq_ignore_case, is_one_of, begins_with_length, begins_with_on, headers}
 use Rattle.svf_reader.specs.Commands.{end_states, left_out_names, any_is_one_of, is_left_out, left_out}
 use Rattle.svf_reader.specs.Commands.{command_of_words}
 use Rattle.ij_text.proofs.EqualTexts.{bytes_are}
@@ -41,7 +41,7 @@ pub scan_kept : (w rest : List ℕ) (ws : List (List ℕ))
 unfolding is_left_out left_out
 scan_kept w rest ws is =
     ap (λ k. cond k (Some w) (let o : Option (List ℕ) = None in o))
-    (scan_lower w rest (is_word (codes "SDR") w) (is_word (codes "SIR") w) refl refl is)
+    (scan_lower w rest (eq_ignore_case (codes "SDR") w) (eq_ignore_case (codes "SIR") w) refl refl is)
 
 -- a text without a word is no command
 pub nothing_read : (kept : ReadSoFar) (ended : Bool) (t : List ℕ) → words t ≡ []

@@ -8,7 +8,8 @@ use Rattle.svf_reader.specs.declared.bytes.Class.{Class}
 use Rattle.svf_reader.specs.declared.bytes.Class.TheVariants.{Gap, Word, Run}
 use Rattle.ij_text.specs.Bytes.{is_blank}
 use Rattle.ij_text.specs.Parts.{longer}
-use Rattle.svf_reader.specs.Texts.{first, in_comment, plain_from, plain, is_mark, is_any, in_word, goes_on}
+use Rattle.svf_reader.specs.Texts.{first, in_comment, plain_from, plain, is_parenthesis, is_any, in_word}
+use Rattle.svf_reader.specs.Texts.{goes_on}
 use Rattle.svf_reader.specs.Texts.{cut, after_bytes, after_word}
 use Rattle.svf_reader.specs.Reading.{in_class, run_length, word_length, words_of, runs_of}
 
@@ -209,15 +210,16 @@ module _ (class : Class) (alone : ℕ → Bool) (of_word : (h : Bool) (b : ℕ)
       )
 
 -- a parenthesis
-mark_word : (text : List ℕ) → 1 ≤ length text → run_length Gap false text ≡ 0 → is_mark (first text) ≡ true
-    → cut is_mark (plain text) ≡ take 1 text ∷ cut is_mark (plain (drop 1 text))
+mark_word : (text : List ℕ) → 1 ≤ length text → run_length Gap false text ≡ 0 → is_parenthesis (first text)
+    ≡ true
+    → cut is_parenthesis (plain text) ≡ take 1 text ∷ cut is_parenthesis (plain (drop 1 text))
 mark_word [] some none mark = absurd (omega arith)
 mark_word (b ∷ bs) some none mark =
     let is = no_gap b bs (in_comment false b (first bs)) (is_blank b) refl refl none in
-    let rest = cut is_mark (plain bs) in
-    let more = longer (goes_on is_mark (plain bs)) b rest in
-    ap (λ h. cut is_mark (cond h 32 b ∷ plain_from h bs)) is.0
-    ∙ ap (λ k. cond k rest (cond (is_mark b) ((b ∷ []) ∷ rest) more)) is.1
+    let rest = cut is_parenthesis (plain bs) in
+    let more = longer (goes_on is_parenthesis (plain bs)) b rest in
+    ap (λ h. cut is_parenthesis (cond h 32 b ∷ plain_from h bs)) is.0
+    ∙ ap (λ k. cond k rest (cond (is_parenthesis b) ((b ∷ []) ∷ rest) more)) is.1
     ∙ ap (λ l. cond l ((b ∷ []) ∷ rest) more) mark
 
 pub record Front (text : List ℕ) (of : List ℕ → List (List ℕ)) (n : ℕ) : Type 0 where
@@ -225,19 +227,19 @@ pub record Front (text : List ℕ) (of : List ℕ → List (List ℕ)) (n : ℕ)
   pub some : 1 ≤ n
 
 next_word_at : (text : List ℕ) (m : Bool) (n : ℕ) → 1 ≤ length text → run_length Gap false text ≡ 0
-    → is_mark (first text) ≡ m → n ≡ cond m 1 (run_length Word false text) → Front text words_of n
+    → is_parenthesis (first text) ≡ m → n ≡ cond m 1 (run_length Word false text) → Front text words_of n
 unfolding words_of
 next_word_at text true n some none mark is =
     subst (λ k. Front text words_of k) (sym is)
     (record { is = mark_word text some none mark; some = omega arith })
 next_word_at text false n some none mark is =
-    let there = run_there Word is_mark (λ h b. refl) text some none mark in
+    let there = run_there Word is_parenthesis (λ h b. refl) text some none mark in
     subst (λ k. Front text words_of k) (sym (is ∙ there.1))
-    (record { is = run_word Word is_mark (λ h b. refl) text there.0 there.1; some = omega arith })
+    (record { is = run_word Word is_parenthesis (λ h b. refl) text there.0 there.1; some = omega arith })
 
 pub next_word_is : (text : List ℕ) (n : ℕ) → 1 ≤ length text → run_length Gap false text ≡ 0
     → n ≡ word_length text → Front text words_of n
-next_word_is text n some none is = next_word_at text (is_mark (first text)) n some none refl is
+next_word_is text n some none is = next_word_at text (is_parenthesis (first text)) n some none refl is
 
 pub next_run_is : (text : List ℕ) (n : ℕ) → 1 ≤ length text → run_length Gap false text ≡ 0
     → n ≡ run_length Run false text → Front text runs_of n
@@ -249,7 +251,7 @@ next_run_is text n some none is =
 
 pub word_gap : (text : List ℕ) → words_of text ≡ words_of (drop (run_length Gap false text) text)
 unfolding words_of
-word_gap text = gap_words is_mark false text
+word_gap text = gap_words is_parenthesis false text
 
 pub run_gap : (text : List ℕ) → runs_of text ≡ runs_of (drop (run_length Gap false text) text)
 unfolding runs_of
@@ -269,23 +271,27 @@ pub skip_gap : (text : List ℕ)
     → after_word (plain text) ≡ after_word (plain (drop (run_length Gap false text) text))
 skip_gap text =
     gap_skipped (List ℕ) after_word
-    (λ b bs e. ap (λ k. cond k (after_word bs) (cond (is_mark b) bs (after_bytes bs))) e) false text
+    (λ b bs e. ap (λ k. cond k (after_word bs) (cond (is_parenthesis b) bs (after_bytes bs))) e) false text
 
-bytes_at : (b : ℕ) (bs : List ℕ) (h k : Bool) → in_comment false b (first bs) ≡ h → in_word is_mark b ≡ k
+bytes_at : (b : ℕ) (bs : List ℕ) (h k : Bool) → in_comment false b (first bs) ≡ h → in_word is_parenthesis b
+    ≡ k
     → after_bytes (plain bs) ≡ plain (drop (run_length Word false bs) bs)
     → after_bytes (plain (b ∷ bs)) ≡ plain (drop (run_length Word false (b ∷ bs)) (b ∷ bs))
 bytes_at b bs true k eh ek rest =
     subst (λ h. after_bytes (cond h 32 b ∷ plain_from h bs)
-    ≡ plain (drop (cond (not h && in_word is_mark b) (suc (run_length Word h bs)) 0) (b ∷ bs))) (sym eh)
+    ≡ plain (drop (cond (not h && in_word is_parenthesis b) (suc (run_length Word h bs)) 0) (b ∷ bs))) (sym
+    eh)
     (sym (ap (λ h. cond h 32 b ∷ plain_from h bs) eh))
 bytes_at b bs false true eh ek rest =
     subst (λ h. after_bytes (cond h 32 b ∷ plain_from h bs)
-    ≡ plain (drop (cond (not h && in_word is_mark b) (suc (run_length Word h bs)) 0) (b ∷ bs))) (sym eh)
+    ≡ plain (drop (cond (not h && in_word is_parenthesis b) (suc (run_length Word h bs)) 0) (b ∷ bs))) (sym
+    eh)
     (subst (λ k. cond k (after_bytes (plain bs)) (b ∷ plain bs)
     ≡ plain (drop (cond k (suc (run_length Word false bs)) 0) (b ∷ bs))) (sym ek) rest)
 bytes_at b bs false false eh ek rest =
     subst (λ h. after_bytes (cond h 32 b ∷ plain_from h bs)
-    ≡ plain (drop (cond (not h && in_word is_mark b) (suc (run_length Word h bs)) 0) (b ∷ bs))) (sym eh)
+    ≡ plain (drop (cond (not h && in_word is_parenthesis b) (suc (run_length Word h bs)) 0) (b ∷ bs))) (sym
+    eh)
     (subst (λ k. cond k (after_bytes (plain bs)) (b ∷ plain bs)
     ≡ plain (drop (cond k (suc (run_length Word false bs)) 0) (b ∷ bs))) (sym ek)
     (sym (ap (λ h. cond h 32 b ∷ plain_from h bs) eh)))
@@ -293,16 +299,17 @@ bytes_at b bs false false eh ek rest =
 after_bytes_is : (text : List ℕ) → after_bytes (plain text) ≡ plain (drop (run_length Word false text) text)
 after_bytes_is [] = refl
 after_bytes_is (b ∷ bs) =
-    bytes_at b bs (in_comment false b (first bs)) (in_word is_mark b) refl refl (after_bytes_is bs)
+    bytes_at b bs (in_comment false b (first bs)) (in_word is_parenthesis b) refl refl (after_bytes_is bs)
 
 -- where no gap begins, after a mark and after a longer word
-after_front : (b : ℕ) (bs : List ℕ) (m : Bool) → is_mark b ≡ m → in_comment false b (first bs) ≡ false
+after_front : (b : ℕ) (bs : List ℕ) (m : Bool) → is_parenthesis b ≡ m → in_comment false b (first bs) ≡ false
     → is_blank b ≡ false → cond m (plain bs) (after_bytes (plain bs))
     ≡ plain (drop (cond m 1 (run_length Word false (b ∷ bs))) (b ∷ bs))
 after_front b bs true em eh eb = refl
 after_front b bs false em eh eb =
     let goes : run_length Word false (b ∷ bs) ≡ suc (run_length Word false bs) =
-    run_on Word false false (b ∷ bs) bs b refl (sym eh) (ap (λ k. not (k || is_mark b)) eb ∙ ap not em) in
+    run_on Word false false (b ∷ bs) bs b refl (sym eh) (ap (λ k. not (k || is_parenthesis b)) eb ∙ ap not
+    em) in
     after_bytes_is bs ∙ ap (λ n. plain (drop n (b ∷ bs))) (sym goes)
 
 pub after_is : (text : List ℕ) (n : ℕ) → run_length Gap false text ≡ 0 → n ≡ word_length text
@@ -311,6 +318,7 @@ after_is [] n none is = ap (λ k. plain (drop k (let l : List ℕ = [] in l))) (
 after_is (b ∷ bs) n none is =
     let free = no_gap b bs (in_comment false b (first bs)) (is_blank b) refl refl none in
     ap (λ h. after_word (cond h 32 b ∷ plain_from h bs)) free.0
-    ∙ ap (λ k. cond k (after_word (plain bs)) (cond (is_mark b) (plain bs) (after_bytes (plain bs)))) free.1
-    ∙ after_front b bs (is_mark b) refl free.0 free.1
+    ∙ ap (λ k. cond k (after_word (plain bs)) (cond (is_parenthesis b) (plain bs) (after_bytes (plain bs))))
+    free.1
+    ∙ after_front b bs (is_parenthesis b) refl free.0 free.1
     ∙ ap (λ k. plain (drop k (b ∷ bs))) (sym is)

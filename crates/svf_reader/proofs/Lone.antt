@@ -6,7 +6,7 @@ use Rattle.std.specs.List.{list_all}
 use Rattle.std.specs.Char.{is_ascii_hexdigit}
 use Rattle.std.proofs.lemmas.Bool.Decides.{nat_tests}
 use Rattle.ij_text.specs.Bytes.{is_blank}
-use Rattle.svf_reader.specs.Texts.{first, opens, plain_from, plain, is_mark, words}
+use Rattle.svf_reader.specs.Texts.{first, opens, plain_from, plain, is_parenthesis, words}
 use Rattle.svf_reader.specs.Commands.{is_close, after_hex, hex_digits}
 use Rattle.svf_reader.specs.declared.bytes.Class.TheVariants.{Word}
 use Rattle.svf_reader.specs.Reading.{run_length, word_length, words_of}
@@ -19,7 +19,7 @@ use Rattle.std.proofs.lemmas.Bool.{and_parts}
 
 record IsApart (b : ℕ) : Type 0 where
   blank : is_blank b ≡ false
-  mark : is_mark b ≡ false
+  mark : is_parenthesis b ≡ false
   comment : (next : ℕ) → opens b next ≡ false
 
 apart : (b : ℕ) → is_ascii_hexdigit b ≡ true → IsApart b
@@ -29,7 +29,7 @@ apart b h = record {
   comment = λ next. grind (arith, nat_tests);
 }
 
-digits_in_word : (w : List ℕ) → list_all is_ascii_hexdigit w ≡ true → AreInWord is_mark w
+digits_in_word : (w : List ℕ) → list_all is_ascii_hexdigit w ≡ true → AreInWord is_parenthesis w
 digits_in_word [] h = tt
 digits_in_word (b ∷ bs) h =
     let both = and_parts (is_ascii_hexdigit b) (list_all is_ascii_hexdigit bs) h in
@@ -55,7 +55,7 @@ digits_alone [] h = refl
 digits_alone (b ∷ bs) h =
     let w = b ∷ bs in
     let one : words w ≡ w ∷ [] = ap words (sym (append-nil w))
-    ∙ word_cut is_mark b bs [] (digits_in_word w h) refl in
+    ∙ word_cut is_parenthesis b bs [] (digits_in_word w h) refl in
     ap (λ l. hex_digits (words l)) (digits_plain w h)
     ∙ ap hex_digits one
     ∙ ap (λ k. cond k [] (w ++ [])) (digits_not_close w h)
@@ -97,7 +97,7 @@ hex_ends b h = grind (arith, nat_tests)
 close_ends : (b : ℕ) → (b == 41) ≡ true → ends_gap b ≡ true
 close_ends b h = grind (arith, nat_tests)
 
-close_mark : (b : ℕ) → (b == 41) ≡ true → is_mark b ≡ true
+close_mark : (b : ℕ) → (b == 41) ≡ true → is_parenthesis b ≡ true
 close_mark b h = grind (arith, nat_tests)
 
 close_is : (b : ℕ) → (b == 41) ≡ true → b ≡ 41

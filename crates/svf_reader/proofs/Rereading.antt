@@ -17,15 +17,18 @@ use Rattle.svf_reader.specs.declared.parsed.Register.TheVariants.{Instruction, D
 use Rattle.svf_reader.specs.declared.so_far.ReadSoFar.{ReadSoFar}
 use Rattle.ij_text.specs.Bytes.{is_blank}
 use Rattle.ij_text.specs.Parts.{before, longer}
-use Rattle.svf_reader.specs.Texts.{plain, texts, is_mark, is_any, goes_on, cut, words, runs, after_bytes}
+use Rattle.svf_reader.specs.Texts.{plain, texts, is_parenthesis, is_any, goes_on, cut, words, runs}
+use Rattle.svf_reader.specs.Texts.{after_bytes}
 use Rattle.svf_reader.specs.Texts.{after_word, blanks}
-use Rattle.svf_reader.specs.Commands.{Parts, SeenParsed, Scans, ToReset, ToIdle, Runs, is_word, any_is_one_of}
+use Rattle.svf_reader.specs.Commands.{Parts, SeenParsed, Scans, ToReset, ToIdle, Runs, eq_ignore_case}
+use Rattle.svf_reader.specs.Commands.{any_is_one_of}
 use Rattle.svf_reader.specs.Commands.{no_parts, with_part, both, one_part, then_parts, parts, after_hex}
 use Rattle.svf_reader.specs.Commands.{scan_of, scan, state, cycles, run_test, parsed_by, command_of_words}
 use Rattle.svf_reader.specs.Commands.{left_out_names, is_left_out, left_out}
 use Rattle.svf_reader.specs.Values.{fitted, hex_bits, is_wide}
 use Rattle.svf_reader.specs.Meaning.{Cause, SvfSyntax, SvfLimit, HexWide, Step, with_length}
-use Rattle.svf_reader.specs.Meaning.{with_leaving_clock, scan_clocks, within_clock_limit, part_wide, part_of}
+use Rattle.svf_reader.specs.Meaning.{with_leaving_clock, scan_clocks, emit_within_clock_limit, part_wide}
+use Rattle.svf_reader.specs.Meaning.{part_of}
 use Rattle.svf_reader.specs.Meaning.{any_wide, scan_with, scan_command, scanned, effect_of, if_parsed}
 use Rattle.svf_reader.specs.Meaning.{unless_left_out, read_command, at_end, and_then, read_from}
 use Rattle.svf_reader.specs.Scripts.{again}
@@ -53,16 +56,19 @@ blank_comes : (kept : ReadSoFar) (ended : Bool) (b : ℕ) (t : List ℕ) → is_
     → read_command kept ended (b ∷ t) ≡ read_command kept ended t
 unfolding read_command
 blank_comes kept ended b t h =
-    same_words kept ended (b ∷ t) t (left_out (words (b ∷ t)) (after_word (b ∷ t))) (blank_cut is_mark b t h)
-    ∙ ap (λ ws. unless_left_out kept ended t (left_out ws (after_word (b ∷ t)))) (blank_cut is_mark b t h)
+    same_words kept ended (b ∷ t) t (left_out (words (b ∷ t)) (after_word (b ∷ t))) (blank_cut
+    is_parenthesis b t h)
+    ∙ ap (λ ws. unless_left_out kept ended t (left_out ws (after_word (b ∷ t)))) (blank_cut is_parenthesis b
+    t h)
     ∙ ap (λ k. unless_left_out kept ended t
-    (left_out (words t) (cond k (after_word t) (cond (is_mark b) t (after_bytes t))))) h
+    (left_out (words t) (cond k (after_word t) (cond (is_parenthesis b) t (after_bytes t))))) h
 
 blank_at : (kept : ReadSoFar) (at b : ℕ) (t : List ℕ) (ts : List (List ℕ)) → is_blank b ≡ true
     → read_from kept at ((b ∷ t) ∷ ts) ≡ read_from kept (suc at) (t ∷ ts)
 blank_at kept at b t [] h =
     let start : at + suc (blanks t) ≡ suc at + blanks t = omega arith in
-    ap (λ ws. at_end ws (read_command kept false (b ∷ t)) (at + blanks (b ∷ t))) (blank_cut is_mark b t h)
+    ap (λ ws. at_end ws (read_command kept false (b ∷ t)) (at + blanks (b ∷ t))) (blank_cut is_parenthesis b
+    t h)
     ∙ ap (λ r. at_end (words t) r (at + blanks (b ∷ t))) (blank_comes kept false b t h)
     ∙ ap (λ k. at_end (words t) (read_command kept false t) (at + cond k (suc (blanks t)) 0)) h
     ∙ ap (λ n. at_end (words t) (read_command kept false t) n) start
@@ -111,7 +117,7 @@ pub record Spelled (text : List ℕ) (s : SeenParsed) : Type 0 where
 
 -- ---- decimal numbers as words
 
-in_words : (alone : ℕ → Bool) → ((b : ℕ) → is_mark b ≡ false → alone b ≡ false)
+in_words : (alone : ℕ → Bool) → ((b : ℕ) → is_parenthesis b ≡ false → alone b ≡ false)
     → (w : List ℕ) → AreDecimal w → AreInWord alone w
 in_words alone other [] h = tt
 in_words alone other (b ∷ bs) h = (h.0.blank, other b h.0.mark, in_words alone other bs h.1)
@@ -120,7 +126,7 @@ decimal_quiet : (w : List ℕ) → AreDecimal w → AreQuiet w
 decimal_quiet [] h = tt
 decimal_quiet (b ∷ bs) h = (h.0.quiet, decimal_quiet bs h.1)
 
-decimal_cut : (alone : ℕ → Bool) → ((b : ℕ) → is_mark b ≡ false → alone b ≡ false) → (w rest : List ℕ)
+decimal_cut : (alone : ℕ → Bool) → ((b : ℕ) → is_parenthesis b ≡ false → alone b ≡ false) → (w rest : List ℕ)
     → 0 < length w → AreDecimal w → goes_on alone rest ≡ false → cut alone (w ++ rest) ≡ w ∷ cut alone rest
 decimal_cut alone other [] rest some h stops = absurd (omega arith)
 decimal_cut alone other (b ∷ bs) rest some h stops =
@@ -130,7 +136,8 @@ decimal_cut alone other (b ∷ bs) rest some h stops =
 no_letter : (b c : ℕ) → nat_lt b 65 ≡ true → 65 ≤ c → (to_ascii_lowercase b == c) ≡ false
 no_letter b c h k = grind (arith, nat_tests)
 
-no_name : (c : ℕ) (cs w : List ℕ) → 65 ≤ to_ascii_lowercase c → AreDecimal w → is_word (c ∷ cs) w ≡ false
+no_name : (c : ℕ) (cs w : List ℕ) → 65 ≤ to_ascii_lowercase c → AreDecimal w → eq_ignore_case (c ∷ cs) w ≡
+    false
 no_name c cs [] k h = refl
 no_name c cs (b ∷ bs) k h =
     ap (λ (t : Bool). t && bytes_eq (str_to_ascii_lowercase bs) (str_to_ascii_lowercase cs))
@@ -147,25 +154,25 @@ run_spelled n few =
     let w = decimal n in
     let body : List ℕ = codes "RUNTEST " ++ (w ++ codes " TCK") in
     let ws : words body ≡ codes "RUNTEST" ∷ w ∷ codes "TCK" ∷ [] = ap (λ (l : List (List ℕ)). codes "RUNTEST"
-    ∷ l) (decimal_cut is_mark (λ b m. m) w (codes " TCK") some is.bytes refl) in
+    ∷ l) (decimal_cut is_parenthesis (λ b m. m) w (codes " TCK") some is.bytes refl) in
     let rs : runs (after_word body) ≡ w ∷ codes "TCK" ∷ [] =
     decimal_cut is_any (λ b m. refl) w (codes " TCK") some is.bytes refl in
-    let reset : is_word (codes "RESET") w ≡ false = no_name 82 (codes "ESET") w (lit≤ tt) is.bytes in
-    let drpause : is_word (codes "DRPAUSE") w ≡ false = no_name 68 (codes "RPAUSE") w (lit≤ tt) is.bytes in
-    let irpause : is_word (codes "IRPAUSE") w ≡ false = no_name 73 (codes "RPAUSE") w (lit≤ tt) is.bytes in
-    let sck : is_word (codes "SCK") w ≡ false = no_name 83 (codes "CK") w (lit≤ tt) is.bytes in
-    let sec : is_word (codes "SEC") w ≡ false = no_name 83 (codes "EC") w (lit≤ tt) is.bytes in
-    let maximum : is_word (codes "MAXIMUM") w ≡ false = no_name 77 (codes "AXIMUM") w (lit≤ tt) is.bytes in
-    let idle : is_word (codes "IDLE") w ≡ false = no_name 73 (codes "DLE") w (lit≤ tt) is.bytes in
+    let reset : eq_ignore_case (codes "RESET") w ≡ false = no_name 82 (codes "ESET") w (lit≤ tt) is.bytes in
+    let drpause : eq_ignore_case (codes "DRPAUSE") w ≡ false = no_name 68 (codes "RPAUSE") w (lit≤ tt) is.bytes in
+    let irpause : eq_ignore_case (codes "IRPAUSE") w ≡ false = no_name 73 (codes "RPAUSE") w (lit≤ tt) is.bytes in
+    let sck : eq_ignore_case (codes "SCK") w ≡ false = no_name 83 (codes "CK") w (lit≤ tt) is.bytes in
+    let sec : eq_ignore_case (codes "SEC") w ≡ false = no_name 83 (codes "EC") w (lit≤ tt) is.bytes in
+    let maximum : eq_ignore_case (codes "MAXIMUM") w ≡ false = no_name 77 (codes "AXIMUM") w (lit≤ tt) is.bytes in
+    let idle : eq_ignore_case (codes "IDLE") w ≡ false = no_name 73 (codes "DLE") w (lit≤ tt) is.bytes in
     let one : any_is_one_of (codes "RESET" ∷ []) (w ∷ codes "TCK" ∷ [])
     ≡ false = ap (λ k. (k || false) || false) reset in
     let rest : any_is_one_of left_out_names (w ∷ codes "TCK" ∷ []) ≡ false =
-    ap (λ k. (k || (is_word (codes "IRPAUSE") w || (is_word (codes "SCK") w ||
-    (is_word (codes "SEC") w || (is_word (codes "MAXIMUM") w || false))))) || false) drpause
-    ∙ ap (λ k. (k || (is_word (codes "SCK") w ||
-    (is_word (codes "SEC") w || (is_word (codes "MAXIMUM") w || false)))) || false) irpause
-    ∙ ap (λ k. (k || (is_word (codes "SEC") w || (is_word (codes "MAXIMUM") w || false))) || false) sck
-    ∙ ap (λ k. (k || (is_word (codes "MAXIMUM") w || false)) || false) sec
+    ap (λ k. (k || (eq_ignore_case (codes "IRPAUSE") w || (eq_ignore_case (codes "SCK") w ||
+    (eq_ignore_case (codes "SEC") w || (eq_ignore_case (codes "MAXIMUM") w || false))))) || false) drpause
+    ∙ ap (λ k. (k || (eq_ignore_case (codes "SCK") w ||
+    (eq_ignore_case (codes "SEC") w || (eq_ignore_case (codes "MAXIMUM") w || false)))) || false) irpause
+    ∙ ap (λ k. (k || (eq_ignore_case (codes "SEC") w || (eq_ignore_case (codes "MAXIMUM") w || false))) || false) sck
+    ∙ ap (λ k. (k || (eq_ignore_case (codes "MAXIMUM") w || false)) || false) sec
     ∙ ap (λ k. (k || false) || false) maximum in
     let both : (any_is_one_of (codes "RESET" ∷ [])
     (w ∷ codes "TCK" ∷ []) || any_is_one_of left_out_names (w ∷ codes "TCK" ∷ []))
@@ -265,7 +272,7 @@ module _ (name : List ℕ) (register : Register)
       ap (λ k. cond k None (let o : Option SeenParsed = Some (Scans register len p) in o)) more
 
   scan_spelled : (s : SeenScan) (p : Parts) → 1 ≤ s.len → s.len ≤ 65536
-      → goes_on is_mark (parts_text s.tdi s.tdo s.mask) ≡ false
+      → goes_on is_parenthesis (parts_text s.tdi s.tdo s.mask) ≡ false
       → parts 4 no_parts (words (parts_text s.tdi s.tdo s.mask)) ≡ Some p
       → Spelled (scan_text (name ++ codes " ") s) (Scans register s.len p)
   unfolding scan
@@ -282,7 +289,7 @@ module _ (name : List ℕ) (register : Register)
       let word = name ++ codes " " in
       let body : List ℕ = word ++ (w ++ all) in
       let ws : words body ≡ name ∷ w ∷ words all = first (w ++ all) ∙ ap (λ (l : List (List ℕ)). name ∷ l)
-      (decimal_cut is_mark (λ b m. m) w all there is.bytes stops) in
+      (decimal_cut is_parenthesis (λ b m. m) w all there is.bytes stops) in
       record {
         body = body;
         text_is = simp append_assoc;
@@ -315,7 +322,7 @@ maybe_again len (Some bits) h = part_again len bits h
 
 scan_done : (kept : ReadSoFar) (register : Register) (len : ℕ) (a : List Bool) (tdo mask : Option (List Bool))
     → len ≤ 65536 → length a ≡ len → HasLength len tdo → HasLength len mask
-    → scanned kept register len (written_parts (Some a) tdo mask) ≡ within_clock_limit
+    → scanned kept register len (written_parts (Some a) tdo mask) ≡ emit_within_clock_limit
     (with_length register len kept) false (with_leaving_clock kept (scan_clocks register len))
     (scan_command register (record { len = len; tdi = Some a; tdo = tdo; mask = mask; smask = None }))
 unfolding scanned
@@ -325,7 +332,7 @@ scan_done kept register len a tdo mask few la lo lm =
     let pa = part_again len a la in
     let po = maybe_again len tdo lo in
     let pm = maybe_again len mask lm in
-    let go : SeenScan → Result Step Cause = λ s. within_clock_limit (with_length register len kept) false
+    let go : SeenScan → Result Step Cause = λ s. emit_within_clock_limit (with_length register len kept) false
     (with_leaving_clock kept (scan_clocks register len)) (scan_command register s) in
     ap (λ k. cond k (Err SvfLimit) (cond (any_wide len p) (Err HexWide) (go (scan_with len p)))) short
     ∙ ap (λ k. cond (k || (part_wide len p.tdo || (part_wide len p.mask || false)))
@@ -353,7 +360,8 @@ module _ (name : List ℕ) (register : Register)
     (scans : (ws : List (List ℕ)) → command_of_words (name ∷ ws) ≡ scan register ws)
     (quiet_name : AreQuiet (name ++ codes " "))
     (starts : (xs : List ℕ) → blanks ((name ++ codes " ") ++ xs) ≡ 0)
-    (same : (kept : ReadSoFar) (s : SeenScan) → within_clock_limit (with_length register s.len kept) false
+    (same : (kept : ReadSoFar) (s : SeenScan) → emit_within_clock_limit (with_length register s.len kept)
+    false
     (with_leaving_clock kept (scan_clocks register s.len)) (scan_command register s)
     ≡ again kept (scan_command register s)) where
   scan_read : (len : ℕ) (tdi tdo mask smask : Option (List Bool))

@@ -8,7 +8,7 @@ use Rattle.svf_reader.specs.declared.so_far.ReadSoFar.{ReadSoFar}
 use Rattle.svf_reader.specs.Commands.{Parts}
 use Rattle.svf_reader.specs.Meaning.{Cause, LeftOut, SvfSyntax, HexWide, SvfLimit, TdiMissing, Step}
 use Rattle.svf_reader.specs.Meaning.{part_wide, part_of, any_wide, scan_with, last_length, tdi_missing}
-use Rattle.svf_reader.specs.Meaning.{with_length, with_leaving_clock, scan_clocks, within_clock_limit}
+use Rattle.svf_reader.specs.Meaning.{with_length, with_leaving_clock, scan_clocks, emit_within_clock_limit}
 use Rattle.svf_reader.specs.Meaning.{scan_command, scanned}
 use Rattle.svf_reader.specs.Answers.{Fails, and_part, part_value, scan_value}
 use Rattle.svf_reader.specs.declared.fault.SvfCause.{SvfCause}
@@ -43,7 +43,7 @@ scanned_on : (kept : ReadSoFar) (register : Register) (len : ℕ) (p : Parts) (w
     → scanned kept register len p
     ≡ (elim v as (λ _. Result Step Cause) [
       | Ok s ↦ cond (tdi_missing (last_length register kept) len p)
-          (Err TdiMissing) (within_clock_limit (with_length register len kept) false
+          (Err TdiMissing) (emit_within_clock_limit (with_length register len kept) false
           (with_leaving_clock kept (scan_clocks register len)) (scan_command register s))
       | Err e ↦ Err e
     ])
@@ -51,13 +51,13 @@ unfolding scanned
 scanned_on kept register len p true v ew ev short =
     ap (λ b. cond b (Err SvfLimit)
     (cond (any_wide len p) (Err HexWide) (cond (tdi_missing (last_length register kept) len p)
-    (Err TdiMissing) (within_clock_limit (with_length register len kept) false (with_leaving_clock kept
+    (Err TdiMissing) (emit_within_clock_limit (with_length register len kept) false (with_leaving_clock kept
     (scan_clocks register len)) (scan_command register (scan_with len p)))))) short
     ∙ ap (λ b. cond b (Err HexWide) (cond (tdi_missing (last_length register kept) len p) (Err TdiMissing)
-    (within_clock_limit (with_length register len kept) false
+    (emit_within_clock_limit (with_length register len kept) false
     (with_leaving_clock kept (scan_clocks register len)) (scan_command register (scan_with len p))))) ew
     ∙ ap (λ (v : Result SeenScan Cause). elim v as (λ _. Result Step Cause) [
-      | Ok s ↦ cond (tdi_missing (last_length register kept) len p) (Err TdiMissing) (within_clock_limit
+      | Ok s ↦ cond (tdi_missing (last_length register kept) len p) (Err TdiMissing) (emit_within_clock_limit
           (with_length register len kept) false (with_leaving_clock kept (scan_clocks register len))
           (scan_command register s))
       | Err e ↦ Err e
@@ -65,13 +65,13 @@ scanned_on kept register len p true v ew ev short =
 scanned_on kept register len p false v ew ev short =
     ap (λ b. cond b (Err SvfLimit)
     (cond (any_wide len p) (Err HexWide) (cond (tdi_missing (last_length register kept) len p)
-    (Err TdiMissing) (within_clock_limit (with_length register len kept) false (with_leaving_clock kept
+    (Err TdiMissing) (emit_within_clock_limit (with_length register len kept) false (with_leaving_clock kept
     (scan_clocks register len)) (scan_command register (scan_with len p)))))) short
     ∙ ap (λ b. cond b (Err HexWide) (cond (tdi_missing (last_length register kept) len p) (Err TdiMissing)
-    (within_clock_limit (with_length register len kept) false
+    (emit_within_clock_limit (with_length register len kept) false
     (with_leaving_clock kept (scan_clocks register len)) (scan_command register (scan_with len p))))) ew
     ∙ ap (λ (v : Result SeenScan Cause). elim v as (λ _. Result Step Cause) [
-      | Ok s ↦ cond (tdi_missing (last_length register kept) len p) (Err TdiMissing) (within_clock_limit
+      | Ok s ↦ cond (tdi_missing (last_length register kept) len p) (Err TdiMissing) (emit_within_clock_limit
           (with_length register len kept) false (with_leaving_clock kept (scan_clocks register len))
           (scan_command register s))
       | Err e ↦ Err e
@@ -80,7 +80,7 @@ scanned_on kept register len p false v ew ev short =
 pub scanned_ok : (kept : ReadSoFar) (register : Register) (len : ℕ) (p : Parts) (s : SeenScan)
     → nat_lt 65536 len ≡ false → scan_value len p ≡ Ok s
     → scanned kept register len p ≡ cond (tdi_missing (last_length register kept) len p) (Err TdiMissing)
-    (within_clock_limit (with_length register len kept) false
+    (emit_within_clock_limit (with_length register len kept) false
     (with_leaving_clock kept (scan_clocks register len)) (scan_command register s))
 scanned_ok kept register len p s short e =
     scanned_on kept register len p (any_wide len p) (Ok s) refl (sym e ∙ scan_value_is len p) short
@@ -104,9 +104,9 @@ pub scanned_ok_at : (kept : ReadSoFar) (register : Register) (len : ℕ) (p : Pa
     (missing : Bool) → nat_lt 65536 len ≡ false → scan_value len p ≡ Ok s
     → tdi_missing (last_length register kept) len p ≡ missing
     → scanned kept register len p
-    ≡ cond missing (Err TdiMissing) (within_clock_limit (with_length register len kept) false
+    ≡ cond missing (Err TdiMissing) (emit_within_clock_limit (with_length register len kept) false
     (with_leaving_clock kept (scan_clocks register len)) (scan_command register s))
 scanned_ok_at kept register len p s missing short e is =
     scanned_ok kept register len p s short e
-    ∙ ap (λ b. cond b (Err TdiMissing) (within_clock_limit (with_length register len kept) false
+    ∙ ap (λ b. cond b (Err TdiMissing) (emit_within_clock_limit (with_length register len kept) false
     (with_leaving_clock kept (scan_clocks register len)) (scan_command register s))) is

@@ -12,18 +12,18 @@ use Rattle.svf_reader.specs.declared.parsed.Register.TheVariants.{Instruction, D
 
 -- ---- words
 
-abbrev pub is_word : List ℕ → List ℕ → Bool
-is_word name w = str_eq_ignore_ascii_case w name
+abbrev pub eq_ignore_case : List ℕ → List ℕ → Bool
+eq_ignore_case name w = str_eq_ignore_ascii_case w name
 
 abbrev pub is_one_of : List (List ℕ) → List ℕ → Bool
-is_one_of names w = list_any (λ name. is_word name w) names
+is_one_of names w = list_any (λ name. eq_ignore_case name w) names
 
 -- whether the words are exactly these
 abbrev pub words_are : List (List ℕ) → List (List ℕ) → Bool
 words_are [] [] = true
 words_are [] (w ∷ ws) = false
 words_are (name ∷ names) [] = false
-words_are (name ∷ names) (w ∷ ws) = is_word name w && words_are names ws
+words_are (name ∷ names) (w ∷ ws) = eq_ignore_case name w && words_are names ws
 
 -- the number of decimal digits that come after those of n
 abbrev pub number_from : ℕ → List ℕ → ℕ
@@ -71,10 +71,10 @@ put_part_once (Some digits) p = None
 
 abbrev pub with_part : List ℕ → List ℕ → Parts → Option Parts
 with_part name digits p =
-    cond (is_word (codes "TDI") name) (put_part_once p.tdi (record p { tdi = Some digits }))
-    (cond (is_word (codes "TDO") name) (put_part_once p.tdo (record p { tdo = Some digits }))
-    (cond (is_word (codes "MASK") name) (put_part_once p.mask (record p { mask = Some digits }))
-    (cond (is_word (codes "SMASK") name) (put_part_once p.smask (record p { smask = Some digits })) None)))
+    cond (eq_ignore_case (codes "TDI") name) (put_part_once p.tdi (record p { tdi = Some digits }))
+    (cond (eq_ignore_case (codes "TDO") name) (put_part_once p.tdo (record p { tdo = Some digits }))
+    (cond (eq_ignore_case (codes "MASK") name) (put_part_once p.mask (record p { mask = Some digits }))
+    (cond (eq_ignore_case (codes "SMASK") name) (put_part_once p.smask (record p { smask = Some digits })) None)))
 
 abbrev pub both : Option Parts → Option (List (List ℕ)) → Option (Parts × List (List ℕ))
 both None rest = None
@@ -130,7 +130,7 @@ cycles (n ∷ ws) =
 
 unfoldable pub run_test : List (List ℕ) → Option SeenParsed
 run_test [] = None
-run_test (w ∷ ws) = cond (is_word (codes "IDLE") w) (cycles ws) (cycles (w ∷ ws))
+run_test (w ∷ ws) = cond (eq_ignore_case (codes "IDLE") w) (cycles ws) (cycles (w ∷ ws))
 
 -- digits, `.`, `E`, `+` and `-`
 abbrev pub in_real : ℕ → Bool
@@ -158,14 +158,14 @@ end_states = codes "ENDDR" ∷ codes "ENDIR" ∷ []
 -- a command, by its first word
 unfoldable pub parsed_by : List ℕ → List (List ℕ) → Option SeenParsed
 parsed_by w ws =
-    cond (is_word (codes "SIR") w) (scan Instruction ws)
-    (cond (is_word (codes "SDR") w) (scan Data ws)
+    cond (eq_ignore_case (codes "SIR") w) (scan Instruction ws)
+    (cond (eq_ignore_case (codes "SDR") w) (scan Data ws)
     (cond (is_one_of headers w) (no_effect_if (words_are (codes "0" ∷ []) ws))
-    (cond (is_word (codes "STATE") w) (state ws)
-    (cond (is_word (codes "RUNTEST") w) (run_test ws)
+    (cond (eq_ignore_case (codes "STATE") w) (state ws)
+    (cond (eq_ignore_case (codes "RUNTEST") w) (run_test ws)
     (cond (is_one_of end_states w) (no_effect_if (words_are (codes "IDLE" ∷ []) ws))
-    (cond (is_word (codes "FREQUENCY") w) (no_effect_if (is_frequency ws))
-    (cond (is_word (codes "TRST") w) (no_effect_if (is_trst ws)) None)))))))
+    (cond (eq_ignore_case (codes "FREQUENCY") w) (no_effect_if (is_frequency ws))
+    (cond (eq_ignore_case (codes "TRST") w) (no_effect_if (is_trst ws)) None)))))))
 
 unfoldable pub command_of_words : List (List ℕ) → Option SeenParsed
 command_of_words [] = None
@@ -174,7 +174,7 @@ command_of_words (w ∷ ws) = parsed_by w ws
 -- whether it is a scan, by its first word
 abbrev pub is_scan : List (List ℕ) → Bool
 is_scan [] = false
-is_scan (w ∷ ws) = is_word (codes "SIR") w || is_word (codes "SDR") w
+is_scan (w ∷ ws) = eq_ignore_case (codes "SIR") w || eq_ignore_case (codes "SDR") w
 
 -- ---- what is left out
 
@@ -197,7 +197,7 @@ begins_with_length (w ∷ ws) = is_length (number w)
 
 abbrev pub begins_with_on : List (List ℕ) → Bool
 begins_with_on [] = false
-begins_with_on (w ∷ ws) = is_word (codes "ON") w
+begins_with_on (w ∷ ws) = eq_ignore_case (codes "ON") w
 
 -- the commands that are left out, by the first word and the text after it: HDR, HIR, TDR and TIR of a length,
 -- PIO, PIOMAP, TRST ON, paths of states, and what names a pause state or another way to count; states and
@@ -206,8 +206,8 @@ unfoldable pub is_left_out : List ℕ → List ℕ → Bool
 is_left_out w rest =
     cond (is_one_of headers w) (begins_with_length (words rest))
     (cond (is_one_of (codes "PIO" ∷ codes "PIOMAP" ∷ []) w) true
-    (cond (is_word (codes "TRST") w) (begins_with_on (words rest))
-    (cond (is_word (codes "STATE") w)
+    (cond (eq_ignore_case (codes "TRST") w) (begins_with_on (words rest))
+    (cond (eq_ignore_case (codes "STATE") w)
     (nat_le 2 (length (runs rest)) || any_is_one_of left_out_names (runs rest))
     (cond (is_one_of (codes "RUNTEST" ∷ end_states) w)
     (any_is_one_of (codes "RESET" ∷ []) (runs rest) || any_is_one_of left_out_names (runs rest)) false))))

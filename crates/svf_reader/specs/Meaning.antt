@@ -48,8 +48,8 @@ abbrev pub Step : Type 0
 Step = Option SeenCommand × ReadSoFar
 
 -- after this many clocks, if they aren't too many: 1,000,000,000 in all
-abbrev pub within_clock_limit : ReadSoFar → Bool → ℕ → SeenCommand → Result Step Cause
-within_clock_limit kept in_reset n command =
+abbrev pub emit_within_clock_limit : ReadSoFar → Bool → ℕ → SeenCommand → Result Step Cause
+emit_within_clock_limit kept in_reset n command =
     cond (nat_le (kept.clocks + n) 1000000000)
     (Ok (Some command, record kept { in_reset = in_reset; clocks = kept.clocks + n })) (Err SvfLimit)
 
@@ -96,7 +96,7 @@ scanned kept register len p =
     cond (nat_lt 65536 len) (Err SvfLimit)
     (cond (any_wide len p) (Err HexWide)
     (cond (tdi_missing (last_length register kept) len p) (Err TdiMissing)
-    (within_clock_limit (with_length register len kept) false
+    (emit_within_clock_limit (with_length register len kept) false
     (with_leaving_clock kept (scan_clocks register len)) (scan_command register (scan_with len p)))))
 
 -- ---- one command
@@ -104,9 +104,9 @@ scanned kept register len p =
 -- what a command of the grammar does
 unfoldable pub effect_of : ReadSoFar → SeenParsed → Result Step Cause
 effect_of kept (Scans register len p) = scanned kept register len p
-effect_of kept ToReset = within_clock_limit kept true 5 Reset
-effect_of kept ToIdle = within_clock_limit kept false (with_leaving_clock kept 0) Idle
-effect_of kept (Runs n) = within_clock_limit kept false (with_leaving_clock kept n) (Run n)
+effect_of kept ToReset = emit_within_clock_limit kept true 5 Reset
+effect_of kept ToIdle = emit_within_clock_limit kept false (with_leaving_clock kept 0) Idle
+effect_of kept (Runs n) = emit_within_clock_limit kept false (with_leaving_clock kept n) (Run n)
 effect_of kept NoEffect = Ok (None, kept)
 
 abbrev pub if_parsed : ReadSoFar → Option SeenParsed → Result Step Cause

@@ -1,7 +1,7 @@
 -- Bytes that the reader passes without a second look, outside of comments.
 use Rattle.std.specs.Prelude.{ℕ, ◌==◌, nat_le, nat_lt, Bool, false, not, ◌&&◌, ◌||◌}
 use Rattle.ij_text.specs.Bytes.{is_blank}
-use Rattle.svf_reader.specs.Texts.{is_mark}
+use Rattle.svf_reader.specs.Texts.{is_parenthesis}
 use Rattle.svf_reader.specs.declared.bytes.Class.{Class}
 use Rattle.svf_reader.specs.declared.bytes.Class.TheVariants.{Gap, Word, Run, Command}
 
@@ -16,7 +16,7 @@ is_passed Command b = not (b == 59) && (not (b == 33) && not (b == 47))
 -- surely not of a class, and nothing that begins a comment
 abbrev pub is_end : Class → ℕ → Bool
 is_end Gap b = false
-is_end Word b = is_blank b || is_mark b
+is_end Word b = is_blank b || is_parenthesis b
 is_end Run b = is_blank b
 is_end Command b = b == 59
 

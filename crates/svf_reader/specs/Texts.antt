@@ -39,8 +39,8 @@ texts (b ∷ bs) = cond (b == 59) ([] ∷ texts bs) (before b (texts bs))
 -- ---- words
 
 -- parentheses
-abbrev pub is_mark : ℕ → Bool
-is_mark b = b == 40 || b == 41
+abbrev pub is_parenthesis : ℕ → Bool
+is_parenthesis b = b == 40 || b == 41
 
 abbrev pub is_any : ℕ → Bool
 is_any b = false
@@ -62,7 +62,7 @@ cut alone (b ∷ bs) =
 
 -- the words of a text: parentheses, and the longest runs of bytes that are neither blank nor parentheses
 abbrev pub words : List ℕ → List (List ℕ)
-words text = cut is_mark text
+words text = cut is_parenthesis text
 
 -- the longest runs of bytes that aren't blank
 abbrev pub runs : List ℕ → List (List ℕ)
@@ -71,12 +71,12 @@ runs text = cut is_any text
 -- what comes after the bytes of a word at the front
 abbrev pub after_bytes : List ℕ → List ℕ
 after_bytes [] = []
-after_bytes (b ∷ bs) = cond (in_word is_mark b) (after_bytes bs) (b ∷ bs)
+after_bytes (b ∷ bs) = cond (in_word is_parenthesis b) (after_bytes bs) (b ∷ bs)
 
 -- the text after the first word
 abbrev pub after_word : List ℕ → List ℕ
 after_word [] = []
-after_word (b ∷ bs) = cond (is_blank b) (after_word bs) (cond (is_mark b) bs (after_bytes bs))
+after_word (b ∷ bs) = cond (is_blank b) (after_word bs) (cond (is_parenthesis b) bs (after_bytes bs))
 
 -- how many blanks stand at the front
 abbrev pub blanks : List ℕ → ℕ

@@ -4,7 +4,7 @@ ghost use Rattle.std.specs.List.{list_all};
 ghost use Rattle.svf_reader.specs.Reading.{in_class, run_length};
 ghost use Rattle.svf_reader.specs.Passed.{is_passed, is_end, ends_gap};
 ghost use Rattle.ij_text.specs.Bytes.{is_blank};
-ghost use Rattle.svf_reader.specs.Texts.{first, in_comment, is_mark};
+ghost use Rattle.svf_reader.specs.Texts.{first, in_comment, is_parenthesis};
 
 use ij_text::is_blank;
 
@@ -21,8 +21,8 @@ pub(crate) enum Class {
     Command,
 }
 
-pub(crate) fn is_mark(b: u8) -> bool
-    ensures { result ≡ is_mark b }
+pub(crate) fn is_parenthesis(b: u8) -> bool
+    ensures { result ≡ is_parenthesis b }
 {
     b == b'(' || b == b')'
 }
@@ -53,7 +53,7 @@ fn in_class(class: Class, hidden: bool, b: u8) -> bool
 {
     match class {
         Class::Gap => hidden || is_blank(b),
-        Class::Word => !hidden && (b >= b'0' || (!is_blank(b) && !is_mark(b))),
+        Class::Word => !hidden && (b >= b'0' || (!is_blank(b) && !is_parenthesis(b))),
         Class::Run => !hidden && !is_blank(b),
         Class::Command => hidden || b != b';',
     }
@@ -158,7 +158,7 @@ fn is_end(class: Class, b: u8) -> bool
 {
     match class {
         Class::Gap => false,
-        Class::Word => is_blank(b) || is_mark(b),
+        Class::Word => is_blank(b) || is_parenthesis(b),
         Class::Run => is_blank(b),
         Class::Command => b == b';',
     }
@@ -166,7 +166,7 @@ fn is_end(class: Class, b: u8) -> bool
 
 /// How many bytes at the front are of a class, where mostly none are: a look at the first one.
 #[inline(always)]
-fn rest_len(text: &[u8], class: Class) -> usize
+fn short_run_len(text: &[u8], class: Class) -> usize
     ensures value { result ≡ run_length class false text.now }
     ensures within { result ≤ length text.now }
 {
@@ -186,7 +186,7 @@ pub(crate) fn long_run_len(text: &[u8], class: Class) -> usize
     let blocks = after_blocks(class, block_size(class), text);
     let n = passed_len(class, blocks);
     let (_, rest) = blocks.split_at(n);
-    text.len() - rest.len() + rest_len(rest, class)
+    text.len() - rest.len() + short_run_len(rest, class)
 }
 
 /// Whether a byte outside of comments is neither blank nor begins a comment.

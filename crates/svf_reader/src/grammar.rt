@@ -2,7 +2,8 @@
 ghost use Rattle.std.specs.Prelude.{MatchBool, MatchOption, ◌≡◌, ◌<◌, ◌==◌, false, codes, option_map, Some};
 ghost use Rattle.std.specs.Prelude.{None, IfSome};
 ghost use Rattle.std.specs.List.{list_all};
-ghost use Rattle.svf_reader.specs.Commands.{is_word, with_part, after_hex, one_part, parts, no_parts, state};
+ghost use Rattle.svf_reader.specs.Commands.{eq_ignore_case, with_part, after_hex, one_part, parts};
+ghost use Rattle.svf_reader.specs.Commands.{no_parts, state};
 ghost use Rattle.svf_reader.specs.Commands.{cycles, run_test, in_real, is_frequency, is_trst, no_effect_if};
 ghost use Rattle.svf_reader.specs.Commands.{parsed_by};
 ghost use Rattle.svf_reader.specs.Reading.{words_of};
@@ -11,7 +12,7 @@ ghost use Rattle.svf_reader.specs.Seen.{digits_of, seen_parts, seen_parsed};
 use crate::bytes::{Class, byte_at, long_run_len};
 use crate::parsed::{Parsed, PartTexts};
 use crate::pieces::next_word;
-use crate::words::{all_hex, is_close, is_one_of, is_open, is_word, number, words_are};
+use crate::words::{all_hex, eq_ignore_case, is_close, is_one_of, is_open, number, words_are};
 
 /// The text after one or more hexadecimal digits and the `)`.
 fn after_hex(text: &[u8]) -> Option<&[u8]>
@@ -37,19 +38,19 @@ fn with_part<'a>(name: &[u8], text: &'a [u8], parts: &mut PartTexts<'a>) -> bool
     ensures { MatchBool result (with_part name.now (digits_of text.now) (seen_parts parts.old) ≡ Some
         (seen_parts parts.new)) (with_part name.now (digits_of text.now) (seen_parts parts.old) ≡ None) }
 {
-    if is_word(name, b"TDI") {
+    if eq_ignore_case(name, b"TDI") {
         let free = parts.tdi.is_none();
         parts.tdi = Some(text);
         free
-    } else if is_word(name, b"TDO") {
+    } else if eq_ignore_case(name, b"TDO") {
         let free = parts.tdo.is_none();
         parts.tdo = Some(text);
         free
-    } else if is_word(name, b"MASK") {
+    } else if eq_ignore_case(name, b"MASK") {
         let free = parts.mask.is_none();
         parts.mask = Some(text);
         free
-    } else if is_word(name, b"SMASK") {
+    } else if eq_ignore_case(name, b"SMASK") {
         let free = parts.smask.is_none();
         parts.smask = Some(text);
         free
@@ -197,7 +198,7 @@ fn run_test(text: &[u8]) -> Option<Parsed>
     ensures { option_map seen_parsed result ≡ run_test (words_of text.now) }
 {
     let word = next_word(text)?;
-    if is_word(word.piece, b"IDLE") {
+    if eq_ignore_case(word.piece, b"IDLE") {
         cycles(word.rest)
     } else {
         cycles(text)
@@ -244,21 +245,21 @@ fn no_effect_if(so: bool) -> Option<Parsed>
 /// What a command other than a scan says, by its first word and the text after it.
 #[tactic(auto, unfolding(crate::specs::Commands::parsed_by))]
 pub(crate) fn parsed_by(word: &[u8], text: &[u8]) -> Option<Parsed>
-    requires sir { is_word (codes "SIR") word.now ≡ false }
-    requires sdr { is_word (codes "SDR") word.now ≡ false }
+    requires sir { eq_ignore_case (codes "SIR") word.now ≡ false }
+    requires sdr { eq_ignore_case (codes "SDR") word.now ≡ false }
     ensures { option_map seen_parsed result ≡ parsed_by word.now (words_of text.now) }
 {
     if is_one_of(word, &[b"HDR", b"HIR", b"TDR", b"TIR"]) {
         no_effect_if(words_are(text, &[b"0"]))
-    } else if is_word(word, b"STATE") {
+    } else if eq_ignore_case(word, b"STATE") {
         state(text)
-    } else if is_word(word, b"RUNTEST") {
+    } else if eq_ignore_case(word, b"RUNTEST") {
         run_test(text)
     } else if is_one_of(word, &[b"ENDDR", b"ENDIR"]) {
         no_effect_if(words_are(text, &[b"IDLE"]))
-    } else if is_word(word, b"FREQUENCY") {
+    } else if eq_ignore_case(word, b"FREQUENCY") {
         no_effect_if(is_frequency(text))
-    } else if is_word(word, b"TRST") {
+    } else if eq_ignore_case(word, b"TRST") {
         no_effect_if(is_trst(text))
     } else {
         None

@@ -6,7 +6,7 @@ ghost use Rattle.svf_reader.specs.Reading.{words_of, runs_of};
 ghost use Rattle.svf_reader.specs.Texts.{plain};
 
 use crate::pieces::{Piece, next_run, next_word};
-use crate::words::{any_is_one_of, is_one_of, is_word, number};
+use crate::words::{any_is_one_of, eq_ignore_case, is_one_of, number};
 
 /// Whether a length that isn't 0 is at the front.
 fn begins_with_length(text: &[u8]) -> bool
@@ -23,7 +23,7 @@ fn begins_with_on(text: &[u8]) -> bool
 {
     match next_word(text) {
         None => false,
-        Some(word) => is_word(word.piece, b"ON"),
+        Some(word) => eq_ignore_case(word.piece, b"ON"),
     }
 }
 
@@ -53,9 +53,9 @@ fn is_left_out(word: &[u8], text: &[u8]) -> bool
         begins_with_length(text)
     } else if is_one_of(word, &[b"PIO", b"PIOMAP"]) {
         true
-    } else if is_word(word, b"TRST") {
+    } else if eq_ignore_case(word, b"TRST") {
         begins_with_on(text)
-    } else if is_word(word, b"STATE") {
+    } else if eq_ignore_case(word, b"STATE") {
         has_two(text) || names_left_out(text)
     } else if is_one_of(word, &[b"RUNTEST", b"ENDDR", b"ENDIR"]) {
         any_is_one_of(text, &[b"RESET"]) || names_left_out(text)

@@ -5,7 +5,8 @@ ghost use Rattle.svf_reader.specs.Answers.{Gives, part_value, scan_value};
 ghost use Rattle.svf_reader.specs.Commands.{Runs, command_of_words, scan};
 ghost use Rattle.svf_reader.specs.Reading.{words_of};
 ghost use Rattle.svf_reader.specs.Meaning.{last_length, with_length, other_length, tdi_missing, scan_clocks};
-ghost use Rattle.svf_reader.specs.Meaning.{with_leaving_clock, within_clock_limit, scan_command, scanned};
+ghost use Rattle.svf_reader.specs.Meaning.{with_leaving_clock, emit_within_clock_limit, scan_command};
+ghost use Rattle.svf_reader.specs.Meaning.{scanned};
 ghost use Rattle.svf_reader.specs.Meaning.{effect_of, if_parsed, read_command};
 ghost use Rattle.svf_reader.specs.Seen.{Leaves, digits_of, seen_parts, seen_parsed};
 ghost use Rattle.svf_reader.specs.Texts.{plain};
@@ -17,7 +18,7 @@ use crate::left_out::left_out;
 use crate::parsed::{Parsed, PartTexts, Register};
 use crate::pieces::{Piece, next_word};
 use crate::so_far::ReadSoFar;
-use crate::words::{is_word, number};
+use crate::words::{eq_ignore_case, number};
 use ij_text::{CLOCK_LIMIT, SCAN_LIMIT, name_of};
 use std::alloc::Global;
 use svf_writer::{Command, Scan, ScanPart};
@@ -115,7 +116,7 @@ fn scan_command(register: Register, scan: Scan) -> Command
 
 /// Leaves a command after this many more clocks.
 #[inline(always)]
-fn within_clock_limit(
+fn emit_within_clock_limit(
     kept: ReadSoFar,
     in_reset: bool,
     n: u64,
@@ -123,7 +124,7 @@ fn within_clock_limit(
     out: &mut Option<Command>,
 ) -> Result<ReadSoFar, SvfCause>
     requires { n < 2 ^ 61 }
-    ensures { Leaves out.new result (within_clock_limit kept in_reset n (seen_command command)) }
+    ensures { Leaves out.new result (emit_within_clock_limit kept in_reset n (seen_command command)) }
 {
     let clocks = u64::from(kept.clocks) + n;
     if clocks > u64::from(CLOCK_LIMIT) {
@@ -161,7 +162,7 @@ fn scanned(
         return Err(SvfCause::TdiMissing);
     }
     let clocks = with_leaving_clock(kept, scan_clocks(register, len));
-    within_clock_limit(
+    emit_within_clock_limit(
         with_length(register, len, kept),
         false,
         clocks,
@@ -178,7 +179,7 @@ fn run(kept: ReadSoFar, cycles: u64, out: &mut Option<Command>) -> Result<ReadSo
         return Err(SvfCause::SvfLimit);
     }
     let clocks = with_leaving_clock(kept, cycles);
-    within_clock_limit(kept, false, clocks, Command::Run(cycles as u32), out)
+    emit_within_clock_limit(kept, false, clocks, Command::Run(cycles as u32), out)
 }
 
 /// What a scan comes to, of which this is the text after the first word.
@@ -212,10 +213,10 @@ fn effect_of(
     ensures { Leaves out.new result (effect_of kept (seen_parsed parsed)) }
 {
     match parsed {
-        Parsed::Reset => within_clock_limit(kept, true, 5, Command::Reset, out),
+        Parsed::Reset => emit_within_clock_limit(kept, true, 5, Command::Reset, out),
         Parsed::Idle => {
             let clocks = with_leaving_clock(kept, 0);
-            within_clock_limit(kept, false, clocks, Command::Idle, out)
+            emit_within_clock_limit(kept, false, clocks, Command::Idle, out)
         }
         Parsed::Run(cycles) => run(kept, cycles, out),
         Parsed::Nothing => {
@@ -236,9 +237,9 @@ fn command_of_words(
     ensures { Leaves out.new result
         (if_parsed kept (command_of_words (first.entry.piece.now ∷ words_of first.entry.rest.now))) }
 {
-    if is_word(first.piece, b"SIR") {
+    if eq_ignore_case(first.piece, b"SIR") {
         scan(alloc, kept, Register::Instruction, first.rest, out)
-    } else if is_word(first.piece, b"SDR") {
+    } else if eq_ignore_case(first.piece, b"SDR") {
         scan(alloc, kept, Register::Data, first.rest, out)
     } else {
         match parsed_by(first.piece, first.rest) {

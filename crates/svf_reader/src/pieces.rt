@@ -3,7 +3,7 @@ ghost use Rattle.std.specs.Prelude.{◌≡◌, ◌+◌, ◌<◌, ◌≤◌, fals
 ghost use Rattle.svf_reader.specs.Reading.{run_length, word_length, words_of, runs_of};
 ghost use Rattle.svf_reader.specs.Texts.{plain, after_word};
 
-use crate::bytes::{Class, byte_at, gap_len, is_mark, long_run_len, run_len};
+use crate::bytes::{Class, byte_at, gap_len, is_parenthesis, long_run_len, run_len};
 
 /// A piece of a text, and the text after it.
 #[derive(Clone, Copy)]
@@ -32,7 +32,7 @@ fn word_len(text: &[u8]) -> usize
     ensures value { result ≡ word_length text.now }
     ensures within { 1 ≤ length text.now → result ≤ length text.now }
 {
-    if is_mark(byte_at(text, 0)) {
+    if is_parenthesis(byte_at(text, 0)) {
         1
     } else {
         long_run_len(text, Class::Word)

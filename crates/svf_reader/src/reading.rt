@@ -17,7 +17,7 @@ use crate::fault::{SvfCause, SvfFault};
 use crate::meaning::read_command;
 use crate::pieces::{Piece, next_word};
 use crate::so_far::ReadSoFar;
-use crate::words::is_word;
+use crate::words::eq_ignore_case;
 use ij_bits::OutOfMemory;
 use ij_text::{Place, SVF_LIMIT, place_at};
 use std::alloc::Global;
@@ -47,7 +47,7 @@ pub fn is_scan(text: &[u8]) -> bool
 {
     match next_word(text) {
         None => false,
-        Some(word) => is_word(word.piece, b"SIR") || is_word(word.piece, b"SDR"),
+        Some(word) => eq_ignore_case(word.piece, b"SIR") || eq_ignore_case(word.piece, b"SDR"),
     }
 }
 

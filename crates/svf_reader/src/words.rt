@@ -2,7 +2,8 @@
 ghost use Rattle.std.specs.Prelude.{◌≡◌, ◌<◌, ◌≤◌, ◌^◌, length, map, IfSome};
 ghost use Rattle.std.specs.List.{list_all};
 ghost use Rattle.std.specs.Char.{is_ascii_hexdigit};
-ghost use Rattle.svf_reader.specs.Commands.{is_open, is_close, is_word, is_one_of, words_are, any_is_one_of};
+ghost use Rattle.svf_reader.specs.Commands.{is_open, is_close, eq_ignore_case, is_one_of, words_are};
+ghost use Rattle.svf_reader.specs.Commands.{any_is_one_of};
 ghost use Rattle.svf_reader.specs.Commands.{number_from, number};
 ghost use Rattle.svf_reader.specs.Reading.{words_of, runs_of};
 
@@ -10,8 +11,8 @@ use crate::pieces::{next_run, next_word};
 use ij_text::all_digits;
 
 /// Whether a word says a name, in either case.
-pub(crate) fn is_word(word: &[u8], name: &[u8]) -> bool
-    ensures { result ≡ is_word name.now word.now }
+pub(crate) fn eq_ignore_case(word: &[u8], name: &[u8]) -> bool
+    ensures { result ≡ eq_ignore_case name.now word.now }
 {
     word.eq_ignore_ascii_case(name)
 }
@@ -33,7 +34,7 @@ pub(crate) fn is_one_of(word: &[u8], names: &[&[u8]]) -> bool
     ensures { result ≡ is_one_of (map (λ name. name.now) names.now) word.now }
 {
     for name in names {
-        if is_word(word, name) {
+        if eq_ignore_case(word, name) {
             return true;
         }
     }
@@ -49,7 +50,7 @@ pub(crate) fn words_are(text: &[u8], names: &[&[u8]]) -> bool
         match next_word(text) {
             None => return false,
             Some(next) => {
-                if !is_word(next.piece, name) {
+                if !eq_ignore_case(next.piece, name) {
                     return false;
                 }
                 text = next.rest;

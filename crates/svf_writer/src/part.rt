@@ -135,7 +135,7 @@ impl ScanPart {
 }
 
 /// A part of a scan, lent where it is in the command. Takes no memory.
-pub fn lend(part: &ScanPart) -> Option<&ScanPart>
+pub fn part_if_given(part: &ScanPart) -> Option<&ScanPart>
     ensures { lent result ≡ part.now }
 {
     if part.is_given() { Some(part) } else { None }

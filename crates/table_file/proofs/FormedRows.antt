@@ -27,8 +27,9 @@ use Rattle.table_lines.specs.Said.{Plus, Minus, FromEntry, SaidSet, SaidRow}
 use Rattle.table_file.specs.Tables.{stands_in, has_twice, word_named, input_named, is_memory, word_or_input}
 use Rattle.table_file.specs.Tables.{operand_named, cond_operand, known, operand_of, name_width, cond_width}
 use Rattle.table_file.specs.Tables.{cond_said, slot_said, amount_said, set_said, row_said, no_operand}
-use Rattle.table_file.specs.Tables.{no_entry, no_slot, no_amount, target as said_target, row_names, is_above}
-use Rattle.table_file.specs.Tables.{slot_width, amount_width, row_widths}
+use Rattle.table_file.specs.Tables.{no_entry, no_slot, no_amount, target as said_target, row_name_fault}
+use Rattle.table_file.specs.Tables.{is_above}
+use Rattle.table_file.specs.Tables.{slot_width, amount_wide, row_width_fault}
 use Rattle.table_file.proofs.Naming.{IsNumber, number_of_name, there}
 use Rattle.table_file.proofs.SaidRows.{IsSaidSet, IsSaidRow}
 use Rattle.table_file.proofs.Within.{less}
@@ -212,7 +213,7 @@ module _ (m : SeenModel) where
   }
 
   one_amount : (width : ℕ) (a : SaidAmount) → no_amount m a ≡ false
-      → amount_width m width a ≡ false → IsAmount m width (amount_said m a)
+      → amount_wide m width a ≡ false → IsAmount m width (amount_said m a)
   one_amount width (Number n) h w = less (2 ^ width) n w
   one_amount width (Copy name) h w = source width name h w
   one_amount width (Plus name n) h w = (
@@ -240,7 +241,7 @@ module _ (m : SeenModel) where
   no_copy (ToEntry e) (FromEntry x) h = absurd h
 
   one_set : (x : SaidSet) → (no_slot m x.slot || no_amount m x.amount) ≡ false
-      → amount_width m (slot_width m x.slot) x.amount ≡ false → IsSaidSet x → IsSet m (set_said m x)
+      → amount_wide m (slot_width m x.slot) x.amount ≡ false → IsSaidSet x → IsSet m (set_said m x)
   one_set x h w said = record {
     slot = one_slot x.slot (or_left_false (no_slot m x.slot) (no_amount m x.amount) h);
     amount = subst (λ width. IsAmount m width (amount_said m x.amount)) (same_width x.slot)
@@ -253,7 +254,7 @@ module _ (m : SeenModel) where
   Unnamed x = no_slot m x.slot || no_amount m x.amount
 
   abbrev Unwide : SaidSet → Bool
-  Unwide x = amount_width m (slot_width m x.slot) x.amount
+  Unwide x = amount_wide m (slot_width m x.slot) x.amount
 
   all_sets : (xs : List SaidSet) → list_any Unnamed xs ≡ false → list_any Unwide xs ≡ false
       → All IsSaidSet xs → All (IsSet m) (map (set_said m) xs)
@@ -335,8 +336,8 @@ module _ (m : SeenModel) where
   some_set [] h = absurd (omega (arith, h))
   some_set (x ∷ xs) h = λ e. absurd cc
 
-  pub formed_row : (change : Bool) (r : SaidRow) → IsSaidRow change r → row_names m r ≡ false
-      → row_widths m r ≡ false → IsRow m (row_said m r)
+  pub formed_row : (change : Bool) (r : SaidRow) → IsSaidRow change r → row_name_fault m r ≡ false
+      → row_width_fault m r ≡ false → IsRow m (row_said m r)
   formed_row change r said h w =
       let no_conds = list_any (λ c. not (is_some (cond_operand m c))) r.conds in
       let unnamed = list_any Unnamed r.sets in

@@ -12,7 +12,7 @@ use Rattle.table_lines.specs.Said.{SaidLine, Input, Word, Memory, Output, Change
 use Rattle.table_lines.specs.Said.{ToEntry, SaidAmount, Number, Copy, Plus, Minus, FromEntry}
 use Rattle.table_lines.specs.SeenSaid.{seen_amount, seen_set}
 use Rattle.table_lines.specs.declared.said.SaidSet.{SaidSet as RustSet}
-use Rattle.table_file.specs.Tables.{is_above, bounds_outside, slot_width, amount_width, width_fault}
+use Rattle.table_file.specs.Tables.{is_above, bounds_outside, slot_width, amount_wide, width_fault}
 use Rattle.table_file.specs.Tables.{limit_fault, with_line, no_width, word_named, row_said}
 use Rattle.table_file.specs.Small.{AreNarrow, IsSmall, IsFewAmount}
 use Rattle.table_file.proofs.Narrowing.{few_word, few_memory}
@@ -35,7 +35,7 @@ few_slot m (ToWord name) narrow = few_word m (unwrap_or (word_named m name) 0) n
 few_slot m (ToEntry e) narrow = few_memory m.memory narrow.memory
 
 few_amount : (m : SeenModel) (width : ℕ) (a : SaidAmount) → width ≤ 64
-    → amount_width m width a ≡ false → IsFewAmount a
+    → amount_wide m width a ≡ false → IsFewAmount a
 few_amount m width (Number n) few h = below width n few h
 few_amount m width (Copy name) few h = tt
 few_amount m width (Plus name n) few h = below width n few (or_right_false _ (is_above width n) h)
@@ -43,7 +43,7 @@ few_amount m width (Minus name n) few h = below width n few (or_right_false _ (i
 few_amount m width (FromEntry e) few h = tt
 
 pub few_sets : (m : SeenModel) (xs : List RustSet) → AreNarrow m
-    → list_any (λ x. amount_width m (slot_width m x.slot) x.amount) (map seen_set xs) ≡ false
+    → list_any (λ x. amount_wide m (slot_width m x.slot) x.amount) (map seen_set xs) ≡ false
     → All (λ x. IsFewAmount (seen_amount x.amount)) xs
 few_sets m [] narrow h i e lt = absurd (omega (arith, lt))
 few_sets m (x ∷ xs) narrow h zero e lt =

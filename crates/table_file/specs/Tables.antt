@@ -142,8 +142,8 @@ abbrev pub target : SaidSlot → List ℕ
 target (ToWord name) = name
 target (ToEntry e) = e.memory
 
-abbrev pub row_names : SeenModel → SaidRow → Bool
-row_names m row =
+abbrev pub row_name_fault : SeenModel → SaidRow → Bool
+row_name_fault m row =
     list_any (λ c. not (is_some (cond_operand m c))) row.conds || (list_any (λ x. no_slot m x.slot ||
     no_amount m x.amount) row.sets || has_twice (map (λ x. target x.slot) row.sets))
 
@@ -154,8 +154,8 @@ name_fault m (Word name width s) = stands_in name (names m)
 name_fault m (Memory name depth width s) = stands_in name (names m)
 name_fault m (Output name s) =
     stands_in name (map (λ out. out.name) m.outs) || not (is_some (word_named m s.word))
-name_fault m (Change row) = row_names m row
-name_fault m (Run row) = row_names m row
+name_fault m (Change row) = row_name_fault m row
+name_fault m (Run row) = row_name_fault m row
 name_fault m End = false
 
 -- ---- widths at fault
@@ -178,25 +178,25 @@ abbrev pub slot_width : SeenModel → SaidSlot → ℕ
 slot_width m (ToWord name) = word_width m (unwrap_or (word_named m name) 0)
 slot_width m (ToEntry e) = memory_width m.memory
 
-abbrev pub amount_width : SeenModel → ℕ → SaidAmount → Bool
-amount_width m width (Number n) = is_above width n
-amount_width m width (Copy name) = not (name_width m name == width)
-amount_width m width (Plus name n) = not (name_width m name == width) || is_above width n
-amount_width m width (Minus name n) = not (name_width m name == width) || is_above width n
-amount_width m width (FromEntry e) = not (memory_width m.memory == width)
+abbrev pub amount_wide : SeenModel → ℕ → SaidAmount → Bool
+amount_wide m width (Number n) = is_above width n
+amount_wide m width (Copy name) = not (name_width m name == width)
+amount_wide m width (Plus name n) = not (name_width m name == width) || is_above width n
+amount_wide m width (Minus name n) = not (name_width m name == width) || is_above width n
+amount_wide m width (FromEntry e) = not (memory_width m.memory == width)
 
-abbrev pub row_widths : SeenModel → SaidRow → Bool
-row_widths m row =
+abbrev pub row_width_fault : SeenModel → SaidRow → Bool
+row_width_fault m row =
     list_any (λ c. is_wide (cond_width m c) c.number) row.conds || list_any
-    (λ x. amount_width m (slot_width m x.slot) x.amount) row.sets
+    (λ x. amount_wide m (slot_width m x.slot) x.amount) row.sets
 
 abbrev pub width_fault : SeenModel → SaidLine → Bool
 width_fault m (Input name width) = false
 width_fault m (Word name width s) = starts_above width s
 width_fault m (Memory name depth width s) = starts_above width s
 width_fault m (Output name s) = bounds_outside (word_width m (unwrap_or (word_named m s.word) 0)) s.bounds
-width_fault m (Change row) = row_widths m row
-width_fault m (Run row) = row_widths m row
+width_fault m (Change row) = row_width_fault m row
+width_fault m (Run row) = row_width_fault m row
 width_fault m End = false
 
 -- ---- limits

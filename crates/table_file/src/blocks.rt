@@ -67,7 +67,7 @@ fn names_of(alloc: Global, words: &[&[u8]]) -> Result<List<Name>, OutOfMemory>
 }
 
 /// Enters the path of a block; `true` where it stood there before.
-fn enter(alloc: Global, paths: &mut Names, text: &[u8]) -> Result<bool, OutOfMemory>
+fn insert_path(alloc: Global, paths: &mut Names, text: &[u8]) -> Result<bool, OutOfMemory>
     requires { length paths.old + 1 < 2 ^ 32 }
     ensures value { IfOk result (λ twice. twice ≡ is_some (number_in paths.old text.now)) }
     ensures paths { IfOk result (λ twice. twice ≡ false → paths.new ≡ paths.old ++ text.now ∷ []) }
@@ -97,7 +97,7 @@ fn new_block(
     let Some(path) = instrument(alloc, words)? else {
         return Err(TableFault::TableSyntax { at });
     };
-    if enter(alloc, paths, path.text)? {
+    if insert_path(alloc, paths, path.text)? {
         return Err(TableFault::TableTwice { at });
     }
     Ok(Block {

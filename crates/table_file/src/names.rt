@@ -5,7 +5,7 @@ ghost use Rattle.instruments.specs.Seen.{seen_word, seen_port, seen_memory, seen
 ghost use Rattle.instruments.specs.Models.{memory_names, names};
 ghost use Rattle.table_file.specs.Tables.{named, stands_in, word_named, input_named, operand_named};
 ghost use Rattle.table_file.specs.Tables.{cond_operand, no_operand, no_entry, no_slot, no_amount, target};
-ghost use Rattle.table_file.specs.Tables.{row_names, name_fault, has_twice};
+ghost use Rattle.table_file.specs.Tables.{row_name_fault, name_fault, has_twice};
 ghost use Rattle.table_lines.specs.SeenSaid.{seen_entry, seen_slot, seen_amount, seen_cond, seen_set};
 ghost use Rattle.table_lines.specs.SeenSaid.{seen_row, seen_said};
 
@@ -227,10 +227,10 @@ fn set_twice(sets: &[SaidSet]) -> bool
     false
 }
 
-fn row_names(m: &Model, row: &SaidRow) -> bool
+fn row_name_fault(m: &Model, row: &SaidRow) -> bool
     requires words { length m.now.words.items ≤ 8 }
     requires ins { length m.now.ins.items ≤ 16 }
-    ensures { result ≡ row_names (seen_model m.now) (seen_row row.now) }
+    ensures { result ≡ row_name_fault (seen_model m.now) (seen_row row.now) }
 {
     any_cond_fault(m, &row.conds) || any_set_fault(m, &row.sets) || set_twice(&row.sets)
 }
@@ -279,8 +279,8 @@ pub(crate) fn name_fault(m: &Model, l: &SaidLine) -> bool
         SaidLine::Output { name, slice } => {
             has_out(m.outs.as_slice(), name) || word_named(m, slice.word).is_none()
         }
-        SaidLine::Change(row) => row_names(m, row),
-        SaidLine::Run(row) => row_names(m, row),
+        SaidLine::Change(row) => row_name_fault(m, row),
+        SaidLine::Run(row) => row_name_fault(m, row),
         SaidLine::End => false,
     }
 }

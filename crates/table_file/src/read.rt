@@ -17,7 +17,7 @@ use ij_text::{Names, Place};
 use std::alloc::Global;
 use table_lines::{end_place, next_line, version, words};
 
-fn nothing(alloc: Global) -> ReadBlocks
+fn no_blocks(alloc: Global) -> ReadBlocks
     ensures value { seen_so_far result ≡ no_tables }
     ensures paths { result.paths ≡ [] }
     ensures so_far { IsSoFar result }
@@ -78,7 +78,7 @@ fn read_lines(
     requires { number + length text.now + 1 < 2 ^ 32 }
     ensures { GivesTable seen_tables result (read_lines second end no_tables (lines_left number text.now)) }
 {
-    let mut so_far = nothing(alloc);
+    let mut so_far = no_blocks(alloc);
     let mut rest = text;
     let mut number = number;
     while let Some(line) = next_line(rest, number) {

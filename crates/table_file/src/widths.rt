@@ -6,7 +6,7 @@ ghost use Rattle.instruments.specs.After.{memory_width};
 ghost use Rattle.instruments.specs.Models.{word_width, input_width, operand_width};
 ghost use Rattle.table_lines.specs.Words.{is_wide};
 ghost use Rattle.table_file.specs.Tables.{known, word_named, name_width, cond_width, slot_width};
-ghost use Rattle.table_file.specs.Tables.{starts_above, bounds_outside, amount_width, row_widths};
+ghost use Rattle.table_file.specs.Tables.{starts_above, bounds_outside, amount_wide, row_width_fault};
 ghost use Rattle.table_file.specs.Tables.{width_fault};
 ghost use Rattle.table_lines.specs.SeenSaid.{seen_slot, seen_amount, seen_cond, seen_set, seen_row};
 ghost use Rattle.table_lines.specs.SeenSaid.{seen_starts, seen_said};
@@ -98,10 +98,10 @@ fn slot_width(m: &Model, slot: &SaidSlot) -> u32
     }
 }
 
-fn amount_width(m: &Model, width: u32, amount: &SaidAmount) -> bool
+fn amount_wide(m: &Model, width: u32, amount: &SaidAmount) -> bool
     requires words { length m.now.words.items ≤ 8 }
     requires ins { length m.now.ins.items ≤ 16 }
-    ensures { result ≡ amount_width (seen_model m.now) width (seen_amount amount.now) }
+    ensures { result ≡ amount_wide (seen_model m.now) width (seen_amount amount.now) }
 {
     match amount {
         SaidAmount::Number(n) => is_number_above(n, u128::from(width)),
@@ -127,10 +127,10 @@ fn cond_wide(m: &Model, c: &SaidCond) -> bool
 fn set_wide(m: &Model, x: &SaidSet) -> bool
     requires words { length m.now.words.items ≤ 8 }
     requires ins { length m.now.ins.items ≤ 16 }
-    ensures { result ≡ amount_width (seen_model m.now)
+    ensures { result ≡ amount_wide (seen_model m.now)
         (slot_width (seen_model m.now) (seen_slot x.now.slot)) (seen_amount x.now.amount) }
 {
-    amount_width(m, slot_width(m, &x.slot), &x.amount)
+    amount_wide(m, slot_width(m, &x.slot), &x.amount)
 }
 
 fn any_cond_wide(m: &Model, conds: &[SaidCond]) -> bool
@@ -150,7 +150,7 @@ fn any_cond_wide(m: &Model, conds: &[SaidCond]) -> bool
 fn any_set_wide(m: &Model, sets: &[SaidSet]) -> bool
     requires words { length m.now.words.items ≤ 8 }
     requires ins { length m.now.ins.items ≤ 16 }
-    ensures { result ≡ list_any (λ x. amount_width (seen_model m.now)
+    ensures { result ≡ list_any (λ x. amount_wide (seen_model m.now)
         (slot_width (seen_model m.now) x.slot) x.amount) (map seen_set sets.now) }
 {
     for x in sets {
@@ -161,10 +161,10 @@ fn any_set_wide(m: &Model, sets: &[SaidSet]) -> bool
     false
 }
 
-fn row_widths(m: &Model, row: &SaidRow) -> bool
+fn row_width_fault(m: &Model, row: &SaidRow) -> bool
     requires words { length m.now.words.items ≤ 8 }
     requires ins { length m.now.ins.items ≤ 16 }
-    ensures { result ≡ row_widths (seen_model m.now) (seen_row row.now) }
+    ensures { result ≡ row_width_fault (seen_model m.now) (seen_row row.now) }
 {
     any_cond_wide(m, &row.conds) || any_set_wide(m, &row.sets)
 }
@@ -214,8 +214,8 @@ pub(crate) fn width_fault(m: &Model, l: &SaidLine) -> bool
         SaidLine::Output { slice, .. } => {
             bounds_outside(word_width(m, slice_word(m, slice.word)), slice.bounds)
         }
-        SaidLine::Change(row) => row_widths(m, row),
-        SaidLine::Run(row) => row_widths(m, row),
+        SaidLine::Change(row) => row_width_fault(m, row),
+        SaidLine::Run(row) => row_width_fault(m, row),
         SaidLine::End => false,
     }
 }

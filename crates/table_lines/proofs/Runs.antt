@@ -6,7 +6,7 @@ use Rattle.ij_text.specs.Bytes.{is_line_blank}
 use Rattle.ij_text.specs.Parts.{before, longer, split}
 use Rattle.table_lines.specs.declared.bytes.Class.{Class}
 use Rattle.table_lines.specs.declared.bytes.Class.TheVariants.{Blank, Word, Shown, Until}
-use Rattle.table_lines.specs.Lines.{shown, is_mark, in_word, goes_on, words, blanks}
+use Rattle.table_lines.specs.Lines.{without_comment, is_mark, in_word, goes_on, words, blanks}
 use Rattle.table_lines.specs.Reading.{in_class, run_length}
 
 -- ---- one byte more
@@ -64,12 +64,12 @@ first_piece at text n is some =
 
 -- ---- comments and blanks
 
-shown_byte : (b : ℕ) (bs : List ℕ) (k : Bool) → shown bs ≡ take (run_length Shown bs) bs
-    → cond k [] (b ∷ shown bs) ≡ take (cond (not k) (suc (run_length Shown bs)) 0) (b ∷ bs)
+shown_byte : (b : ℕ) (bs : List ℕ) (k : Bool) → without_comment bs ≡ take (run_length Shown bs) bs
+    → cond k [] (b ∷ without_comment bs) ≡ take (cond (not k) (suc (run_length Shown bs)) 0) (b ∷ bs)
 shown_byte b bs true e = refl
 shown_byte b bs false e = ap (λ r. b ∷ r) e
 
-pub shown_is : (text : List ℕ) → shown text ≡ take (run_length Shown text) text
+pub shown_is : (text : List ℕ) → without_comment text ≡ take (run_length Shown text) text
 shown_is [] = refl
 shown_is (b ∷ bs) = shown_byte b bs (b == 35) (shown_is bs)
 

@@ -30,13 +30,13 @@ unless_too_wide (Some w) = cond (is_too_wide w) None (Some w)
 unfoldable pub number : List ℕ → Option Written
 number text = unless_too_wide (number_of_text text)
 
-abbrev pub in_decimal : Option Written → Option ℕ
-in_decimal None = None
-in_decimal (Some (InDecimal n)) = Some n
-in_decimal (Some (InBits bits)) = None
+abbrev pub decimal_or_none : Option Written → Option ℕ
+decimal_or_none None = None
+decimal_or_none (Some (InDecimal n)) = Some n
+decimal_or_none (Some (InBits bits)) = None
 
 unfoldable pub decimal : List ℕ → Option ℕ
-decimal text = in_decimal (number text)
+decimal text = decimal_or_none (number text)
 
 abbrev pub is_open : Option Bool → Bool
 is_open bit = not (is_some bit)

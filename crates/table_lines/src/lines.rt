@@ -1,7 +1,8 @@
 // The lines of a text that have words.
 ghost use Rattle.std.specs.Prelude.{◌≡◌, ◌+◌, ◌^◌, ◌<◌, ◌≤◌, [], ◌∷◌, length, MatchOption, IfSome, IfOk, suc};
 ghost use Rattle.std.specs.Prelude.{ℕ};
-ghost use Rattle.table_lines.specs.Lines.{shown, words, line_place, line_of, unless_empty, end_of, lines};
+ghost use Rattle.table_lines.specs.Lines.{without_comment, words, line_place, line_of, unless_empty};
+ghost use Rattle.table_lines.specs.Lines.{end_of, lines};
 ghost use Rattle.table_lines.specs.Reading.{lines_left, seen_line, texts};
 
 use crate::bytes::{Class, cut_at, next_word, run_len};
@@ -23,8 +24,8 @@ pub struct Line<'a> {
 }
 
 /// A line's text without its comment.
-fn shown(text: &[u8]) -> &[u8]
-    ensures { result.now ≡ shown text.now }
+fn without_comment(text: &[u8]) -> &[u8]
+    ensures { result.now ≡ without_comment text.now }
 {
     let (front, _) = text.split_at(run_len(text, Class::Shown));
     front
@@ -53,7 +54,7 @@ pub fn next_line<'a>(text: &'a [u8], number: u32) -> Option<Line<'a>>
     let mut number = number;
     while !rest.is_empty() {
         let (line, after) = cut_line(rest);
-        let text = shown(line);
+        let text = without_comment(line);
         if next_word(text).is_some() {
             let at = first_place(number, line);
             return Some(Line {

@@ -250,7 +250,7 @@ fn plus_minus<'a>(name: &'a [u8], sign: &[u8], n: Option<u128>) -> Option<SaidAm
     }
 }
 
-fn short_set<'a>(
+fn plain_assignment<'a>(
     alloc: Global,
     second: bool,
     a: &'a [u8],
@@ -271,7 +271,7 @@ fn short_set<'a>(
     }
 }
 
-fn long_set<'a>(
+fn sum_assignment<'a>(
     alloc: Global,
     second: bool,
     a: &'a [u8],
@@ -305,8 +305,8 @@ fn set_words<'a>(
     ensures { IfOk result (λ x. option_map seen_set x ≡ set_words second (texts words.now)) }
 {
     match words {
-        [a, e, b] => short_set(alloc, second, a, e, b),
-        [a, e, b, sign, n] => long_set(alloc, second, a, e, b, sign, n),
+        [a, e, b] => plain_assignment(alloc, second, a, e, b),
+        [a, e, b, sign, n] => sum_assignment(alloc, second, a, e, b, sign, n),
         _ => Ok(None),
     }
 }

@@ -7,7 +7,8 @@ ghost use Rattle.std.specs.List.{list_all, list_any};
 ghost use Rattle.std.specs.Char.{is_ascii_hexdigit};
 ghost use Rattle.ij_bits.specs.BitLists.{number_of};
 ghost use Rattle.ij_text.specs.Numbers.{InDecimal, InBits, bits_in, seen, tern_bits, hex_value};
-ghost use Rattle.table_lines.specs.Words.{care_in, number, decimal, in_decimal, is_open, is_one, is_wide};
+ghost use Rattle.table_lines.specs.Words.{care_in, number, decimal, decimal_or_none, is_open, is_one};
+ghost use Rattle.table_lines.specs.Words.{is_wide};
 ghost use Rattle.table_lines.specs.Words.{value_in, without_x, plain, hex, hex_from};
 ghost use Rattle.table_lines.specs.Reading.{plain_value};
 
@@ -34,8 +35,8 @@ pub fn number(alloc: Global, text: &[u8]) -> Result<Option<Number>, OutOfMemory>
     }
 }
 
-fn in_decimal(number: &Option<Number>) -> Option<u128>
-    ensures { result ≡ in_decimal (option_map seen number.now) }
+fn decimal_or_none(number: &Option<Number>) -> Option<u128>
+    ensures { result ≡ decimal_or_none (option_map seen number.now) }
 {
     match number {
         Some(Number::Decimal(n)) => Some(*n),
@@ -49,7 +50,7 @@ pub fn decimal(alloc: Global, text: &[u8]) -> Result<Option<u128>, OutOfMemory>
     ensures { IfOk result (λ n. n ≡ decimal text.now) }
 {
     let number = number(alloc, text)?;
-    Ok(in_decimal(&number))
+    Ok(decimal_or_none(&number))
 }
 
 fn some_open(t: &Tern) -> bool

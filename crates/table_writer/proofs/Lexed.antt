@@ -5,7 +5,8 @@ use Rattle.std.specs.Prelude.{◌==◌, ◌&&◌, ◌||◌}
 use Rattle.std.specs.List.{list_all}
 use Rattle.ij_text.specs.Bytes.{is_line_blank}
 use Rattle.ij_text.specs.Parts.{before, longer, split}
-use Rattle.table_lines.specs.Lines.{Line, lines, shown, is_mark, in_word, goes_on, words, line_place}
+use Rattle.table_lines.specs.Lines.{Line, lines, without_comment, is_mark, in_word, goes_on, words}
+use Rattle.table_lines.specs.Lines.{line_place}
 use Rattle.table_lines.specs.Lines.{unless_empty, lines_from}
 use Rattle.std.proofs.lemmas.Bool.{and_from}
 use Rattle.ij_bits.proofs.Tests.{and_second}
@@ -122,12 +123,13 @@ one_word (b ∷ bs) some h = record {
 
 -- ---- lines
 
-all_shown : (text : List ℕ) → list_all is_shown text ≡ true → shown text ≡ text
+all_shown : (text : List ℕ) → list_all is_shown text ≡ true → without_comment text ≡ text
 all_shown [] h = refl
 all_shown (b ∷ bs) h = one (b == 10) (b == 35) (first_true (is_shown b) (list_all is_shown bs) h)
     (all_shown bs (and_second (is_shown b) (list_all is_shown bs) h))
   where
-    one : (x y : Bool) → not (x || y) ≡ true → shown bs ≡ bs → cond y [] (b ∷ shown bs) ≡ b ∷ bs
+    one : (x y : Bool) → not (x || y) ≡ true → without_comment bs ≡ bs → cond y [] (b ∷ without_comment bs)
+        ≡ b ∷ bs
     one true y k more = absurd cc
     one false true k more = absurd cc
     one false false k more = ap (λ l. b ∷ l) more
@@ -205,6 +207,6 @@ line_read text w ws l n rest =
     ap (λ t. lines_from n (lines (t ++ rest))) l.is
     ∙ ap (λ t. lines_from n (lines t)) (append_assoc l.front (codes "\n") rest)
     ∙ ap (lines_from n) (first_line l.front rest l.own.plain)
-    ∙ line_as n l.front w ws (lines_from (suc n) (lines rest)) (words (shown l.front))
+    ∙ line_as n l.front w ws (lines_from (suc n) (lines rest)) (words (without_comment l.front))
     (ap words (all_shown l.front l.own.plain ∙ sym (append-nil l.front))
     ∙ l.own.reads [] refl ∙ append-nil (w ∷ ws))

@@ -11,10 +11,11 @@ use Rattle.std.proofs.lemmas.Bool.Decides.{nat_tests}
 use Rattle.std.proofs.lemmas.Fmt.{decimal_is_IsNumeral}
 use Rattle.std.proofs.lemmas.Str.Parse.{digit_from_value, IsNumeralModel, FoldsDigits, numerals_by_fold}
 use Rattle.std.proofs.lemmas.Str.Parse.{tells_digits}
-use Rattle.ij_text.specs.Numbers.{InDecimal, next_decimal, decimal_from, is_digit, go_on, value_of, said}
+use Rattle.ij_text.specs.Numbers.{InDecimal, with_decimal_digit, decimal_from, is_digit, is_rest_of_digits}
+use Rattle.ij_text.specs.Numbers.{value_of, said}
 use Rattle.ij_text.specs.Numbers.{number_of_text}
 use Rattle.ij_text.specs.Words.{begins_name, in_name, is_name}
-use Rattle.table_lines.specs.Words.{is_too_wide, unless_too_wide, in_decimal, without_x}
+use Rattle.table_lines.specs.Words.{is_too_wide, unless_too_wide, decimal_or_none, without_x}
 use Rattle.table_lines.specs.Words.{number as number_read, decimal as decimal_read, plain as plain_read}
 use Rattle.table_writer.proofs.Lexed.{first_true, all_weaker, is_letter, Reads, one_word}
 use Rattle.ij_bits.proofs.Tests.{not_both, and_second}
@@ -126,7 +127,7 @@ pub decimal_word : (n : ℕ) → n < 2 ^ 64 → Reads (decimal n) (decimal n ∷
 decimal_word n h = one_word (decimal n) (decimal_some n h) (decimal_letters n h)
 
 -- the number that digits say
-next_is : (n b : ℕ) → IsInRange 48 57 b → next_decimal n b ≡ n * 10 + (b - 48)
+next_is : (n b : ℕ) → IsInRange 48 57 b → with_decimal_digit n b ≡ n * 10 + (b - 48)
 next_is n b (low, high) = one (b == 95) refl
   where
     one : (k : Bool) → (b == 95) ≡ k → cond k n (10 * n + (b - 48)) ≡ n * 10 + (b - 48)
@@ -143,10 +144,11 @@ decimal_value n h =
     model.same (decimal n) (decimal_is_IsNumeral n h).0.1 ∙ (decimal_is_IsNumeral n h).1
 
 -- digits in a radix
-pub goes_on : (radix : _) (bs : List ℕ) → list_all (is_digit radix) bs ≡ true → go_on radix true bs ≡ true
+pub goes_on : (radix : _) (bs : List ℕ) → list_all (is_digit radix) bs ≡ true → is_rest_of_digits radix true
+    bs ≡ true
 goes_on radix [] h = refl
 goes_on radix (b ∷ bs) h =
-    ap (λ k. cond k (go_on radix true bs) ((b == 95) && go_on radix false bs))
+    ap (λ k. cond k (is_rest_of_digits radix true bs) ((b == 95) && is_rest_of_digits radix false bs))
     (first_true (is_digit radix b) (list_all (is_digit radix) bs) h)
     ∙ goes_on radix bs (and_second (is_digit radix b) (list_all (is_digit radix) bs) h)
 
@@ -155,7 +157,7 @@ pub said_digits : (radix : _) (text : List ℕ) → text ≢ [] → list_all (is
 said_digits radix [] some h = absurd (some refl)
 said_digits radix (b ∷ bs) some h =
     ap (λ k. cond k (Some (value_of radix (b ∷ bs))) None)
-    (and_from (is_digit radix b) (go_on radix true bs)
+    (and_from (is_digit radix b) (is_rest_of_digits radix true bs)
     (first_true (is_digit radix b) (list_all (is_digit radix) bs) h)
     (goes_on radix bs (and_second (is_digit radix b) (list_all (is_digit radix) bs) h)))
 
@@ -201,7 +203,7 @@ number_decimal n h =
 
 pub decimal_decimal : (n : ℕ) → n < 2 ^ 64 → decimal_read (decimal n) ≡ Some n
 unfolding decimal_read
-decimal_decimal n h = ap in_decimal (number_decimal n h)
+decimal_decimal n h = ap decimal_or_none (number_decimal n h)
 
 pub plain_decimal : (n : ℕ) → n < 2 ^ 64 → plain_read (decimal n) ≡ Some n
 unfolding plain_read

@@ -16,8 +16,9 @@ use Rattle.instruments.specs.Models.{IsCond, IsSet, IsSlot, IsRow, target as tar
 use Rattle.table_lines.specs.Said.{Words, is, parts, in_first, SaidCond, SaidSet, SaidRow, sets, more_sets}
 use Rattle.table_lines.specs.Said.{row_of, more_conds, after_cond, conds_sets, if_there, row}
 use Rattle.table_file.specs.Tables.{word_named, has_twice, cond_operand, cond_width, cond_said, set_said}
-use Rattle.table_file.specs.Tables.{row_said, no_slot, no_amount, target, amount_width, slot_width, row_names}
-use Rattle.table_file.specs.Tables.{row_widths}
+use Rattle.table_file.specs.Tables.{row_said, no_slot, no_amount, target, amount_wide, slot_width}
+use Rattle.table_file.specs.Tables.{row_name_fault}
+use Rattle.table_file.specs.Tables.{row_width_fault}
 use Rattle.bench_file.specs.Written.{parted, cond_text, set_text, when_text, row_text, memory_name}
 use Rattle.table_writer.proofs.Lexed.{first_true, Reads, Parts, Follows, IsLine, nothing, join, part}
 use Rattle.table_writer.proofs.Lexed.{line_last, part_end, then_end, line_end}
@@ -246,8 +247,8 @@ pub record IsRowRead (m : SeenModel) (change : Bool) (kind : List ℕ) (r : Seen
   pub ws : Words
   pub line : IsLine (row_text m kind r) (kind ∷ ws)
   pub said : row true change ws ≡ Some (row_back m r)
-  pub names : row_names m (row_back m r) ≡ false
-  pub widths : row_widths m (row_back m r) ≡ false
+  pub names : row_name_fault m (row_back m r) ≡ false
+  pub widths : row_width_fault m (row_back m r) ≡ false
   pub back : row_said m (row_back m r) ≡ r
 
 abbrev pub the_seen_row : List Cond → List Set → SeenRow
@@ -285,13 +286,13 @@ row_read m h change kind own r is may = of_sets r.conds r.sets is.does is.conds 
               (targets_differ m h (x ∷ xs) sets once));
           widths =
               or_from (list_any (λ (c : SaidCond). is_wide (cond_width m c) c.number) (map (cond_back m) cs))
-              (list_any (λ (x : SaidSet). amount_width m (slot_width m x.slot) x.amount)
+              (list_any (λ (x : SaidSet). amount_wide m (slot_width m x.slot) x.amount)
               (map (set_back m) (x ∷ xs)))
               (none_any (λ (c : SaidCond). is_wide (cond_width m c) c.number) (cond_back m) cs
               (All-weaker (IsCondRead m change) (λ c. is_wide (cond_width m (cond_back m c))
               (cond_back m c).number ≡ false) (λ c h. h.fits) cs cs_read))
-              (none_any (λ (x : SaidSet). amount_width m (slot_width m x.slot) x.amount) (set_back m) (x ∷ xs)
-              (All-weaker (IsSetRead m) (λ y. amount_width m (slot_width m (slot_back m y.slot))
+              (none_any (λ (x : SaidSet). amount_wide m (slot_width m x.slot) x.amount) (set_back m) (x ∷ xs)
+              (All-weaker (IsSetRead m) (λ y. amount_wide m (slot_width m (slot_back m y.slot))
               (amount_back m y.amount) ≡ false) (λ y h. h.widths) (x ∷ xs) xs_read));
           back = ap (λ l. the_seen_row l (map (set_said m) (map (set_back m) (x ∷ xs))))
               (all_back (cond_said m) (cond_back m) cs (All-weaker (IsCondRead m change)

@@ -6,7 +6,8 @@ use Rattle.std.specs.List.{list_all}
 use Rattle.std.specs.Char.{is_ascii_digit}
 use Rattle.std.proofs.lemmas.Bool.Decides.{nat_tests}
 use Rattle.std.proofs.lemmas.List.Elements.{All-weaker}
-use Rattle.ij_text.specs.Numbers.{InDecimal, is_digit, go_on, value_of, decimal_from, said, number_of_text}
+use Rattle.ij_text.specs.Numbers.{InDecimal, is_digit, is_rest_of_digits, value_of, decimal_from, said}
+use Rattle.ij_text.specs.Numbers.{number_of_text}
 use Rattle.ij_text.specs.Words.{begins_name, in_name, is_name}
 use Rattle.ij_text.specs.Options.{or_else}
 use Rattle.table_lines.specs.Words.{unless_too_wide, without_x, number as number_read, plain as plain_read}
@@ -31,7 +32,7 @@ use Rattle.table_lines.specs.Said.{entry_slot, slot, number_amount, entry_amount
 use Rattle.table_lines.specs.Said.{set_words}
 use Rattle.table_file.specs.Tables.{stands_in, is_memory, known, name_width, slot_said, amount_said, set_said}
 use Rattle.table_file.specs.Tables.{no_operand, no_entry, no_slot, no_amount, is_above, slot_width}
-use Rattle.table_file.specs.Tables.{amount_width}
+use Rattle.table_file.specs.Tables.{amount_wide}
 use Rattle.bench_file.specs.Written.{word_name, memory_name, operand_text, entry_text, slot_text, amount_text}
 use Rattle.bench_file.specs.Written.{set_text}
 use Rattle.table_writer.specs.Pieces.{operand_name}
@@ -50,7 +51,8 @@ use Rattle.ij_bits.proofs.Tests.{not_both}
 -- ---- a text that begins as a name isn't a number
 
 no_digits : (radix : _) (b : ℕ) (bs : List ℕ) → is_digit radix b ≡ false → said radix (b ∷ bs) ≡ None
-no_digits radix b bs h = ap (λ k. cond (k && go_on radix true bs) (Some (value_of radix (b ∷ bs))) None) h
+no_digits radix b bs h = ap (λ k. cond (k && is_rest_of_digits radix true bs) (Some (value_of radix (b ∷
+    bs))) None) h
 
 begins_no_digit : (b : ℕ) → begins_name b ≡ true → is_ascii_digit b ≡ false
 begins_no_digit b h = one (is_ascii_digit b) refl
@@ -350,7 +352,7 @@ source_wide m h w o s = ap (λ x. not (operand_width m (known x) == w))
     (operand_found m h.differ o s.there s.present) ∙ equal_test (operand_width m o) w s.as_wide
 
 amount_fits : (m : SeenModel) → IsNamed m → (w : ℕ) (a : Amount) → IsAmount m w a
-    → amount_width m w (amount_back m a) ≡ false
+    → amount_wide m w (amount_back m a) ≡ false
 amount_fits m h w (ANumber n) small = lt-leb (2 ^ w) n small
 amount_fits m h w (ACopy o) s = source_wide m h w o s
 amount_fits m h w (APlus o n) (s, small) = or_from (not (name_width m (operand_name m o) == w)) (is_above w n)
@@ -365,7 +367,7 @@ pub record IsSetRead (m : SeenModel) (x : Set) : Type 0 where
   pub clean : list_all no_comma (set_words_of m x) ≡ true
   pub said : set_words true (set_words_of m x) ≡ Some (set_back m x)
   pub names : (no_slot m (slot_back m x.slot) || no_amount m (amount_back m x.amount)) ≡ false
-  pub widths : amount_width m (slot_width m (slot_back m x.slot)) (amount_back m x.amount) ≡ false
+  pub widths : amount_wide m (slot_width m (slot_back m x.slot)) (amount_back m x.amount) ≡ false
   pub back : set_said m (set_back m x) ≡ x
 
 abbrev pub the_plain_set : Slot → Amount → Set
@@ -385,7 +387,7 @@ set_read m h x is =
       said = set_again m h (width_of m x.slot) few x.slot x.amount is.slot is.amount is.no_copy;
       names = or_from (no_slot m (slot_back m x.slot)) (no_amount m (amount_back m x.amount))
           (slot_known m h x.slot is.slot) (amount_known m h (width_of m x.slot) x.amount is.amount);
-      widths = ap (λ w. amount_width m w (amount_back m x.amount)) (slot_wide m h x.slot is.slot)
+      widths = ap (λ w. amount_wide m w (amount_back m x.amount)) (slot_wide m h x.slot is.slot)
           ∙ amount_fits m h (width_of m x.slot) x.amount is.amount;
       back = ap (λ s. the_plain_set s (amount_said m (amount_back m x.amount))) (slot_is m h x.slot is.slot)
           ∙ ap (the_plain_set x.slot) (amount_is m h (width_of m x.slot) x.amount is.amount);

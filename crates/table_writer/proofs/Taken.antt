@@ -20,8 +20,8 @@ use Rattle.table_lines.specs.Said.{FromEntry, SaidSet, SaidRow, Starts, starts, 
 use Rattle.table_lines.specs.Said.{change_line, run_line, line}
 use Rattle.table_file.specs.Tables.{stands_in, word_named, known, cond_operand, operand_of, cond_width}
 use Rattle.table_file.specs.Tables.{cond_said, slot_said, amount_said, set_said, row_said, no_slot, no_amount}
-use Rattle.table_file.specs.Tables.{has_twice, target, row_names, is_above, reset_above, starts_above}
-use Rattle.table_file.specs.Tables.{bounds_outside, slot_width, amount_width, row_widths, no_width}
+use Rattle.table_file.specs.Tables.{has_twice, target, row_name_fault, is_above, reset_above, starts_above}
+use Rattle.table_file.specs.Tables.{bounds_outside, slot_width, amount_wide, row_width_fault, no_width}
 use Rattle.table_file.specs.Tables.{name_fault, width_fault, limit_fault, out_said}
 use Rattle.bench_file.specs.Written.{word_name, reset_text, input_text, word_text, memory_text, bounds_text}
 use Rattle.bench_file.specs.Written.{out_text, row_text}
@@ -381,7 +381,7 @@ module _ (m : SeenModel) (c r : List SeenRow) where
   slot_width_as (ToWord name) = refl
   slot_width_as (ToEntry e) = refl
 
-  amount_width_as : (w : ℕ) (a : SaidAmount) → amount_width (with_rows m c r) w a ≡ amount_width m w a
+  amount_width_as : (w : ℕ) (a : SaidAmount) → amount_wide (with_rows m c r) w a ≡ amount_wide m w a
   amount_width_as w (Number n) = refl
   amount_width_as w (Copy name) = ap (λ k. not (k == w)) (operand_as (operand_of m name))
   amount_width_as w (Plus name n) = ap (λ k. not (k == w) || is_above w n) (operand_as (operand_of m name))
@@ -405,9 +405,9 @@ module _ (m : SeenModel) (c r : List SeenRow) where
       ∙ ap (λ k. no_slot m x.slot || k) (no_amount_as x.amount)
 
   set_widths_as : (x : SaidSet)
-      → amount_width (with_rows m c r) (slot_width (with_rows m c r) x.slot) x.amount
-      ≡ amount_width m (slot_width m x.slot) x.amount
-  set_widths_as x = ap (λ w. amount_width (with_rows m c r) w x.amount) (slot_width_as x.slot)
+      → amount_wide (with_rows m c r) (slot_width (with_rows m c r) x.slot) x.amount
+      ≡ amount_wide m (slot_width m x.slot) x.amount
+  set_widths_as x = ap (λ w. amount_wide (with_rows m c r) w x.amount) (slot_width_as x.slot)
       ∙ amount_width_as (slot_width m x.slot) x.amount
 
   set_said_as : (x : SaidSet) → set_said (with_rows m c r) x ≡ set_said m x
@@ -422,22 +422,22 @@ module _ (m : SeenModel) (c r : List SeenRow) where
   cond_said_as x = ap (λ w. the_cond (known (cond_operand m x)) (value_in w x.number) (care_in w x.number))
       (operand_as (known (cond_operand m x)))
 
-  row_names_as : (x : SaidRow) → row_names (with_rows m c r) x ≡ row_names m x
+  row_names_as : (x : SaidRow) → row_name_fault (with_rows m c r) x ≡ row_name_fault m x
   row_names_as x =
       ap (λ k. list_any (λ (y : SaidCond). not (is_some (cond_operand m y))) x.conds ||
       (k || has_twice (map (λ (y : SaidSet). target y.slot) x.sets)))
       (any_same (λ (y : SaidSet). no_slot (with_rows m c r) y.slot || no_amount (with_rows m c r) y.amount)
       (λ (y : SaidSet). no_slot m y.slot || no_amount m y.amount) set_names_as x.sets)
 
-  row_widths_as : (x : SaidRow) → row_widths (with_rows m c r) x ≡ row_widths m x
+  row_widths_as : (x : SaidRow) → row_width_fault (with_rows m c r) x ≡ row_width_fault m x
   row_widths_as x =
-      ap (λ k. k || list_any (λ (y : SaidSet). amount_width (with_rows m c r)
+      ap (λ k. k || list_any (λ (y : SaidSet). amount_wide (with_rows m c r)
       (slot_width (with_rows m c r) y.slot) y.amount) x.sets)
       (any_same (λ (y : SaidCond). is_wide (cond_width (with_rows m c r) y) y.number)
       (λ (y : SaidCond). is_wide (cond_width m y) y.number) cond_widths_as x.conds)
       ∙ ap (λ k. list_any (λ (y : SaidCond). is_wide (cond_width m y) y.number) x.conds || k)
-      (any_same (λ (y : SaidSet). amount_width (with_rows m c r) (slot_width (with_rows m c r) y.slot)
-      y.amount) (λ (y : SaidSet). amount_width m (slot_width m y.slot) y.amount) set_widths_as x.sets)
+      (any_same (λ (y : SaidSet). amount_wide (with_rows m c r) (slot_width (with_rows m c r) y.slot)
+      y.amount) (λ (y : SaidSet). amount_wide m (slot_width m y.slot) y.amount) set_widths_as x.sets)
 
   pub row_said_as : (x : SaidRow) → row_said (with_rows m c r) x ≡ row_said m x
   row_said_as x =

@@ -52,7 +52,12 @@ fn put_digits<K: Sink>(width: u32, value: u64, care: u64, k: &mut K) -> Result<(
 }
 
 /// Writes the number of a condition that has x.
-fn put_open<K: Sink>(width: u32, value: u64, care: u64, k: &mut K) -> Result<(), StoreFault>
+fn put_number_with_x<K: Sink>(
+    width: u32,
+    value: u64,
+    care: u64,
+    k: &mut K,
+) -> Result<(), StoreFault>
     requires { width ≤ 64 }
     ensures whole { OnOk result (Adds (K.taken k.old) (K.taken k.new)
         (codes "0b" ++ digits (bits_of width value) (bits_of width care))) }
@@ -75,7 +80,7 @@ fn put_compared<K: Sink>(width: u32, value: u64, care: u64, k: &mut K) -> Result
     if u128::from(care) == (1u128 << width) - 1 {
         put_decimal(value, k)
     } else {
-        put_open(width, value, care, k)
+        put_number_with_x(width, value, care, k)
     }
 }
 

@@ -87,7 +87,7 @@ impl<'a> Player<'a> {
     }
 
     /// The state in which the play rests once all pins were given. It takes no memory.
-    pub fn ended(&self) -> Stable
+    pub fn end_state(&self) -> Stable
         requires { self.now.pins ≡ [] }
         ensures { result ≡ self.now.rests }
     {

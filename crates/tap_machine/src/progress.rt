@@ -14,7 +14,7 @@ ghost use Rattle.tap_machine.specs.Play.{no_shift, after_scan, masked};
 ghost use Rattle.tap_machine.specs.Pieces.{piece_pins};
 
 use crate::{Piece, Pins, Stable};
-use svf_writer::{Command, Commands, Scan, ScanPart, lend};
+use svf_writer::{Command, Commands, Scan, ScanPart, part_if_given};
 
 /// The length of the last scan of a kind, and the bits of the commands that it took its TDI and MASK from.
 /// Without MASK each bit is compared.
@@ -70,7 +70,7 @@ pub(crate) fn next_held_bits<'a>(kept: HeldBits<'a>, scan: &'a Scan) -> HeldBits
     ensures sound { AreHeldBits result }
     ensures last { last_length result ≡ Some scan.now.len }
 {
-    let mask = match lend(&scan.mask) {
+    let mask = match part_if_given(&scan.mask) {
         Some(mask) => Some(mask),
         None => if kept.len == scan.len {
             kept.mask
@@ -78,7 +78,7 @@ pub(crate) fn next_held_bits<'a>(kept: HeldBits<'a>, scan: &'a Scan) -> HeldBits
             None
         },
     };
-    let tdi = match lend(&scan.tdi) {
+    let tdi = match part_if_given(&scan.tdi) {
         Some(tdi) => Some(tdi),
         None => kept.tdi,
     };
@@ -245,7 +245,7 @@ impl<'a> Progress<'a> {
     {
         self.phase = phase;
         self.scan = scan;
-        self.tdo = lend(tdo);
+        self.tdo = part_if_given(tdo);
         self.scans += 1;
         self.at += 1;
     }
@@ -283,7 +283,7 @@ impl<'a> Progress<'a> {
     }
 
     /// Begins this many clocks with one TMS, which leave the controller in a state.
-    fn begin_quiet(&mut self, tms: bool, left: u32, from: Stable)
+    fn begin_constant_tms(&mut self, tms: bool, left: u32, from: Stable)
         ensures { self.new ≡ record self.old { phase = Phase.Quiet tms left; rests_in = from } }
     {
         self.phase = Phase::Quiet { tms, left };
@@ -301,18 +301,18 @@ impl<'a> Progress<'a> {
     {
         match (self.command(), self.rests_in) {
             (Command::Reset, _) => {
-                self.begin_quiet(true, 5, Stable::Reset);
+                self.begin_constant_tms(true, 5, Stable::Reset);
                 self.at += 1;
             },
-            (_, Stable::Reset) => self.begin_quiet(false, 1, Stable::Idle),
+            (_, Stable::Reset) => self.begin_constant_tms(false, 1, Stable::Idle),
             (Command::Sir(scan), _) => self.begin_sir(scan),
             (Command::Sdr(scan), _) => self.begin_sdr(scan),
             (Command::Idle, _) => {
-                self.begin_quiet(false, 0, Stable::Idle);
+                self.begin_constant_tms(false, 0, Stable::Idle);
                 self.at += 1;
             },
             (Command::Run(cycles), _) => {
-                self.begin_quiet(false, *cycles, Stable::Idle);
+                self.begin_constant_tms(false, *cycles, Stable::Idle);
                 self.at += 1;
             },
         }

@@ -116,7 +116,7 @@ impl Chip {
         Ok(reg.from)
     }
 
-    /// Where a bit is on the path; `None` where it doesn't.
+    /// Where a bit is on the path; `None` where it isn't.
     fn position(&self, bit: BitId) -> Result<Option<u32>, PlanStop> {
         let place = at(&self.places, bit.reg as usize)?;
         if place.scan != self.scan {

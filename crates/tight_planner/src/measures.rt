@@ -53,7 +53,9 @@ fn measure_mux(all: &mut Segments, m: usize, found: MuxInfo) -> Result<(), PlanS
     let outside = at(&all.segments, info.set_from)?.depth < at(&all.segments, info.home)?.depth;
     let mut home = copy_at(&all.segments, info.home)?;
     home.least = home.least.saturating_add(rest.least);
-    home.fresh = home.fresh.saturating_add(first_bits(rest, reset, outside));
+    home.fresh = home
+        .fresh
+        .saturating_add(bits_at_first_visit(rest, reset, outside));
     put_at(&mut all.segments, info.home, home)?;
     if rest.fresh != rest.least {
         all.uneven = true;
@@ -63,6 +65,6 @@ fn measure_mux(all: &mut Segments, m: usize, found: MuxInfo) -> Result<(), PlanS
 
 /// The bits of a mux whose segment is on the path for the first time: it is in any row if it was set from
 /// outside.
-fn first_bits(rest: Segment, reset: Segment, outside: bool) -> u64 {
+fn bits_at_first_visit(rest: Segment, reset: Segment, outside: bool) -> u64 {
     if outside { rest.fresh } else { reset.fresh }
 }

@@ -54,7 +54,7 @@ fn digit(value: &Tern, i: u32) -> Result<Option<bool>, PlanStop> {
 }
 
 /// The deepest of the segments that hold these bits.
-pub(crate) fn deepest_select(
+pub(crate) fn deepest_segment(
     segments: &[Segment],
     of_reg: &[usize],
     select: &[BitId],
@@ -70,7 +70,7 @@ pub(crate) fn deepest_select(
 }
 
 /// Whether a select value lists these bits.
-fn lists(value: &Tern, bits: &Bits) -> Result<bool, PlanStop> {
+fn value_lists_bits(value: &Tern, bits: &Bits) -> Result<bool, PlanStop> {
     for i in 0..bits.len() {
         let bit = bits.get(i);
         if digit(value, i)?.unwrap_or(bit) != bit {
@@ -83,7 +83,7 @@ fn lists(value: &Tern, bits: &Bits) -> Result<bool, PlanStop> {
 /// Whether a row lists these bits.
 fn row_lists(row: &Row, bits: &Bits) -> Result<bool, PlanStop> {
     for value in row.values.as_slice() {
-        if lists(value, bits)? {
+        if value_lists_bits(value, bits)? {
             return Ok(true);
         }
     }

@@ -8,14 +8,14 @@ use crate::stretch::{Item, Round, Stretch};
 use ij_bits::Bits;
 use ij_io::{Sink, SureSink, Word, put_words};
 use net_graph::{Net, ReadBit};
-use svf_writer::{put_list, put_mark, put_round};
+use svf_writer::{put_apply_mark, put_bits_part, put_round_mark};
 
 /// Writes the comment before a round.
 fn put_comment(round: &Round, text: &mut SureSink) -> Result<(), PlanStop> {
     if round.round < 2 {
-        put_mark(round.apply, text)?;
+        put_apply_mark(round.apply, text)?;
     } else {
-        put_round(round.apply, round.round, text)?;
+        put_round_mark(round.apply, round.round, text)?;
     }
     Ok(())
 }
@@ -34,7 +34,7 @@ fn put_cycles(cycles: u32, text: &mut SureSink) -> Result<(), PlanStop> {
 /// Writes the beginning of a scan, with what is shifted in.
 fn put_shifted(tdi: &Bits, text: &mut SureSink) -> Result<(), PlanStop> {
     put_words(text, &[Word::Text(b"SDR "), Word::Number(tdi.len() as u64)])?;
-    put_list(b" TDI (", tdi, text)?;
+    put_bits_part(b" TDI (", tdi, text)?;
     Ok(())
 }
 
@@ -48,8 +48,8 @@ fn put_compared(chip: &Chip, reads: &[ReadBit], text: &mut SureSink) -> Result<(
     for read in reads {
         chip.expect(read, &mut tdo, &mut mask)?;
     }
-    put_list(b" TDO (", &tdo, text)?;
-    put_list(b" MASK (", &mask, text)?;
+    put_bits_part(b" TDO (", &tdo, text)?;
+    put_bits_part(b" MASK (", &mask, text)?;
     Ok(())
 }
 

@@ -3,7 +3,7 @@
 
 use crate::access::{at, copy_at, push_at, put_at};
 use crate::measures::measured;
-use crate::rows::{RowInfo, deepest_select, reset_row_of, reset_select, row_info};
+use crate::rows::{RowInfo, deepest_segment, reset_row_of, reset_select, row_info};
 use crate::stop::PlanStop;
 use ij_bits::Bits;
 use net_graph::{Branch, Mux, Net};
@@ -84,7 +84,7 @@ fn innermost(muxes: &[MuxInfo], place: &[Branch]) -> Result<usize, PlanStop> {
 }
 
 /// The muxes, with the numbers of their rows' segments alone.
-fn numbered(alloc: Global, net: &Net) -> Result<Vec<MuxInfo>, PlanStop> {
+fn numbered_muxes(alloc: Global, net: &Net) -> Result<Vec<MuxInfo>, PlanStop> {
     let mut muxes = Vec::new(alloc);
     let mut next: usize = 1;
     for mux in net.muxes.as_slice() {
@@ -109,7 +109,7 @@ impl Segments {
             segments: Vec::new(alloc),
             rows: Vec::new(alloc),
             inner: Vec::new(alloc),
-            muxes: numbered(alloc, net)?,
+            muxes: numbered_muxes(alloc, net)?,
             of_reg: Vec::new(alloc),
             uneven: false,
         };
@@ -202,7 +202,7 @@ impl Segments {
         let select = mux.select.as_slice();
         let at_reset = reset_select(alloc, net, select)?;
         let mut info = copy_at(&self.muxes, m)?;
-        info.set_from = deepest_select(&self.segments, &self.of_reg, select)?;
+        info.set_from = deepest_segment(&self.segments, &self.of_reg, select)?;
         info.reset_row = reset_row_of(mux, &at_reset)?;
         put_at(&mut self.muxes, m, info)?;
         for row in mux.rows.as_slice() {

@@ -70,7 +70,7 @@ pub(crate) struct Stretch {
 }
 
 /// The number of wants at scans before this one.
-fn place_of_scan(list: &[Want], scan: usize) -> usize {
+fn wants_before(list: &[Want], scan: usize) -> usize {
     for i in (0..list.len()).rev() {
         if list[i].scan < scan {
             return i + 1;
@@ -81,7 +81,7 @@ fn place_of_scan(list: &[Want], scan: usize) -> usize {
 
 /// Puts a want in its place. Answers whether it is new.
 fn insert_want(list: &mut Vec<Want>, want: Want) -> Result<bool, PlanStop> {
-    let place = place_of_scan(list, want.scan);
+    let place = wants_before(list, want.scan);
     if let Some(other) = list.get(place) {
         if other.scan == want.scan {
             return if other.row == want.row {

@@ -19,7 +19,7 @@ returns-in_err-differs-clause-part g c =
     let given : left ≡ here ++ later = subst (λ d. compares d c.loop-played.player.pins s
     ≡ here ++ compares d c.play.new.player.pins c.play.new.self.state) same c.in-Some.ensures.compares in
     let part : (ns : Names) → g.N.ReadNames.AreNames c.args.names.now ns
-    → AddsPart (g.K.Sink.taken c.args.k.now) (g.K.Sink.taken c.put_piece.new.k)
+    → AddsPart (g.K.Sink.taken c.args.k.now) (g.K.Sink.taken c.put_played_compares.new.k)
     (named_lines ns (differing (compares chip c.args.player.now.pins c.args.bench.now.state))) = λ ns are.
     let all = named_lines ns (differing (compares chip c.args.player.now.pins c.args.bench.now.state)) in
     front_part (named_lines ns (differing here)) (named_lines ns (differing later)) (subst
@@ -75,7 +75,7 @@ loop-played-preserved g c =
           (subst (λ (text : List ℕ). AddsFront (g.K.Sink.taken c.args.k.now) (g.K.Sink.taken c.loop-played.k)
           text all) (lines_here left here later given ns) (c.loop-played.invariant.front ns are))
           (c.in_ok-differs.ensures.whole ns (c.loop-played.invariant.names ns are));
-      names = λ ns are. c.put_piece.ensures.names ns (c.loop-played.invariant.names ns are);
+      names = λ ns are. c.put_played_compares.ensures.names ns (c.loop-played.invariant.names ns are);
       clocks = omega (arith, c.in-Some.ensures.clocks, c.loop-played.invariant.clocks);
       differs = omega (
         arith,
@@ -83,5 +83,5 @@ loop-played-preserved g c =
         c.in_ok-differs.ensures.count,
         c.loop-played.invariant.differs,
       );
-      later = omega (arith, c.put_piece.ensures.cause.later, c.loop-played.invariant.later);
+      later = omega (arith, c.put_played_compares.ensures.cause.later, c.loop-played.invariant.later);
     }

@@ -15,8 +15,8 @@ returns c =
     let captured =
     pushed seen_prop c.push.new.self.items source c.in_ok-push-2.ensures.ok (ap ACaptureSource capture) in
     let loaded = pushed seen_prop c.push-2.new.self.items captured c.in_ok-push-3.ensures.ok
-    (ap ALoadValue c.in_ok-sized.ensures) in
+    (ap ALoadValue c.in_ok-sized_number.ensures) in
     let props = pushed seen_prop c.push-3.new.self.items loaded c.in_ok-push-4.ensures.ok
-    (ap AResetValue c.in_ok-sized-2.ensures) in
+    (ap AResetValue c.in_ok-sized_number-2.ensures) in
     on_ok_weaker c.add.result (λ added. added_as _ _ added (both
     (λ r ps. item (codes "R") (ARegister (Some r) ps)) c.in_ok-whole_width.ensures props)) c.add.ensures

@@ -15,6 +15,6 @@ returns c =
     let captured =
     pushed seen_prop c.push.new.self.items source c.in_ok-push-2.ensures.ok (ap ACaptureSource capture) in
     let props = pushed seen_prop c.push-2.new.self.items captured c.in_ok-push-3.ensures.ok
-    (ap AResetValue c.in_ok-sized.ensures) in
+    (ap AResetValue c.in_ok-sized_number.ensures) in
     on_ok_weaker c.add.result
     (λ added. added_as _ _ added (ap (λ ps. item (codes "SR") (ARegister None ps)) props)) c.add.ensures

@@ -7,7 +7,7 @@ use Rattle.design_maker.proofs.modules.add_wrap_ports.Goals as goal
 
 pub returns : goal.returns
 returns c =
-    let source = c.in_ok-source.ensures ∙ ap (λ r. ranged (codes "R" ∷ []) (Some r)) c.in_ok-lowest.ensures in
+    let source = c.in_ok-source.ensures ∙ ap (λ r. ranged (codes "R" ∷ []) (Some r)) c.in_ok-lowest_bit_range.ensures in
     let output = added_as _ _ c.in_ok-sourced.ensures (ap (sourced ScanOutPort (codes "SO")) source) in
     on_ok_weaker c.interface.result
     (λ last. then_more _ _ _ _ _ c.in_ok-port.ensures (then_more _ _ _ _ _ c.in_ok-port-2.ensures

@@ -16,6 +16,6 @@ loop-alloc-preserved c = record {
       go_on with_property no_close (read_property c.args.owner)
       (λ ps. reads_shrink (property_reads c.args.owner ps)) (seen_list seen_prop c.loop-alloc.props.value)
       c.loop-alloc.props.rest (seen_read (seen_list seen_prop) c.in_ok-props.props)
-      (sym c.before_close.ensures ∙ c.loop-alloc-test.true) c.in_ok-props.ensures.gives
+      (sym c.is_next_not_close.ensures ∙ c.loop-alloc-test.true) c.in_ok-props.ensures.gives
       ∙ c.loop-alloc.invariant.goes_on;
 }

@@ -16,6 +16,6 @@ loop-alloc-preserved c = record {
       go_on with_member no_close (λ (ys : List (List ℕ)). read_member) (λ ys. reads_shrink member_reads)
       (seen_list bytes_of c.loop-alloc.names.value) c.loop-alloc.names.rest
       (seen_read (seen_list bytes_of) c.in_ok-names.names)
-      (sym c.before_close.ensures ∙ c.loop-alloc-test.true) c.in_ok-names.ensures.gives
+      (sym c.is_next_not_close.ensures ∙ c.loop-alloc-test.true) c.in_ok-names.ensures.gives
       ∙ c.loop-alloc.invariant.goes_on;
 }

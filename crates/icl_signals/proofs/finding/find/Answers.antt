@@ -32,8 +32,9 @@ pub returns-in-Some : goal.returns-in-Some
 returns-in-Some c =
     let w = c.args.wiring.now in
     let l = c.loop-moves in
-    goes_on_if (cells_of w) w.entry c.args.start l.moves l.inverted l.wire c.in-Some.found c.after.result
-    l.invariant.way c.in-Some.ensures c.after.ensures.looks c.after.ensures.end
+    goes_on_if (cells_of w) w.entry c.args.start l.moves l.inverted l.wire c.in-Some.found
+    c.end_after_moves.result
+    l.invariant.way c.in-Some.ensures c.end_after_moves.ensures.looks c.end_after_moves.ensures.end
 
 pub returns-in-Ended : goal.returns-in-Ended
 returns-in-Ended c =

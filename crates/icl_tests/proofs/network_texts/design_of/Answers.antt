@@ -12,6 +12,6 @@ returns c =
     let few = few_tokens c.tokens_are_in_the_text.ensures text has.0 c.requires has.1 in
     let modules = seen_design c.in-Ok-parse.design in
     record {
-      written = c.designs_are_written.ensures text has.0 modules has.1 few
+      written = c.designs_have_icl_names.ensures text has.0 modules has.1 few
           (subst (λ tokens. design.derives tokens modules) has.2 c.in-Ok-parse.ensures.found);
     }

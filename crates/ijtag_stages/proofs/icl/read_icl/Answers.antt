@@ -12,5 +12,5 @@ returns-clause-written c =
     let text = c.args.text.now in
     let has : HasTokens text c.in_ok-tokens.tokens = c.in_ok-tokens.ensures in
     let few = few_tokens c.tokens_are_in_the_text.ensures text has.0 c.requires has.1 in
-    c.designs_are_written.ensures text has.0 (seen_design c.in_ok-design.design) has.1 few (subst
+    c.designs_have_icl_names.ensures text has.0 (seen_design c.in_ok-design.design) has.1 few (subst
     (λ tokens. design.derives tokens (seen_design c.in_ok-design.design)) has.2 c.in_ok-design.ensures)

@@ -26,5 +26,5 @@ returns-in-Err-clause-follows c =
     subst (λ (ps : List Proc). EndsIn (bit_steps (map seen_proc ps) network.net network.form name).fault
     c.in-Err.fault) c.as_slice.ensures named in
     told_fault (procedure procs (seen_network network) name)
-    (option_map (step_refusal of) (fault_of c.in-Err.fault)) c.told.result c.told.ensures
+    (option_map (step_refusal of) (fault_of c.in-Err.fault)) c.refusal_of.result c.refusal_of.ensures
     (λ r told. ends_told (bit_steps procs network.net network.form name).fault of c.in-Err.fault r ends told)

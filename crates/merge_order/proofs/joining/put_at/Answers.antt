@@ -18,11 +18,11 @@ returns-in_ok-add_round c = λ within open_join.
     (seen_group c.args.round.now) there c.index_mut-join.ensures.value c.deref_mut.ensures.value
     written c.in_ok-add_round.ensures open_join
 
-pub returns-in_ok-alone : goal.returns-in_ok-alone
-returns-in_ok-alone c = λ within open_join.
+pub returns-in_ok-join_of_round : goal.returns-in_ok-join_of_round
+returns-in_ok-join_of_round c = λ within open_join.
     let past : length c.args.joins.now.items ≤ c.args.place = omega arith in
-    let join = c.in_ok-alone.field-0 in
+    let join = c.in_ok-join_of_round.field-0 in
     let added = c.push_reserved.ensures.items
     ∙ ap (λ (l : List (Vec Group Global)). l ++ join ∷ []) c.reserve.ensures.items in
     pushed_join c.args.joins.now.items c.push_reserved.new.self.items c.args.place join
-    (seen_group c.args.round.now) past added c.in_ok-alone.ensures
+    (seen_group c.args.round.now) past added c.in_ok-join_of_round.ensures

@@ -47,7 +47,7 @@ returns-in_err-piece-clause-part g c =
     given c.in_ok-put_scan.ensures.whole refl in
     at_refusal _
     (is_part c.args.net.now c.args.test.now.scans old c.args.name.now c.next.new.self.scans files
-    c.put_scan.new.k go (g.S.Shelf.files c.next_piece.new.shelf) c.in_err-piece.ensures.part)
+    c.put_scan.new.k go (g.S.Shelf.files c.store_full_piece.new.shelf) c.in_err-piece.ensures.part)
 
 pub loop-piece-preserved : goal.loop-piece-preserved
 loop-piece-preserved g c =
@@ -59,16 +59,17 @@ loop-piece-preserved g c =
           c.args.name.now c.args.piece) c.args.name.now c.loop-piece.test.scans
           (g.S.Shelf.files c.loop-piece.shelf) c.loop-piece.piece c.loop-piece.invariant.go
           (seen_test_scan c.in-Some.scan) c.next.new.self.scans c.put_scan.new.k c.in_ok-piece.piece
-          (g.S.Shelf.files c.next_piece.new.shelf) given
+          (g.S.Shelf.files c.store_full_piece.new.shelf) given
           c.in_ok-put_scan.ensures.whole c.in_ok-piece.ensures.whole;
       there = c.in_ok-piece.ensures.there;
       can = later_can c.args.net.now c.loop-piece.test.scans
           (seen_test_scan c.in-Some.scan) c.next.new.self.scans given c.loop-piece.invariant.can;
-      others = λ other n. c.next_piece.ensures.others other n ∙ c.loop-piece.invariant.others other n;
+      others = λ other n. c.store_full_piece.ensures.others other n ∙ c.loop-piece.invariant.others other n;
       later = one_later c.args.name.now (g.S.Shelf.store_faults c.args.shelf.now)
-          (g.S.Shelf.store_faults c.loop-piece.shelf) (g.S.Shelf.store_faults c.next_piece.new.shelf) _ _
-          c.loop-piece.invariant.later c.next_piece.ensures.cause;
-      loads = λ name. c.next_piece.ensures.loads name ∙ c.loop-piece.invariant.loads name;
+          (g.S.Shelf.store_faults c.loop-piece.shelf) (g.S.Shelf.store_faults c.store_full_piece.new.shelf)
+          _ _
+          c.loop-piece.invariant.later c.store_full_piece.ensures.cause;
+      loads = λ name. c.store_full_piece.ensures.loads name ∙ c.loop-piece.invariant.loads name;
       unseen = ap (λ (t : SeenTest). t.unseen) c.in_ok-scan.ensures.others ∙ c.loop-piece.invariant.unseen;
       scan_count = ap (λ (t : SeenTest). t.scan_count) c.in_ok-scan.ensures.others
           ∙ c.loop-piece.invariant.scan_count;

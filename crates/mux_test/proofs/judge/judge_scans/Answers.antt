@@ -12,21 +12,22 @@ loop-scan-preserved c =
     let h = c.loop-scan.holds in
     record {
       can = next_can net c.args.scans.now i c.scan-item.result c.loop-scan-test.true c.scan-item.is h
-          c.advance.new.holds c.advance.ensures c.loop-scan.invariant.can;
+          c.take_plan_writes.new.holds c.take_plan_writes.ensures c.loop-scan.invariant.can;
       judged = next_judged net c.args.scans.now i c.scan-item.result c.loop-scan-test.true c.scan-item.is h
-          c.advance.new.holds c.advance.ensures c.loop-scan.rows.items c.judge_changed.new.rows.items _
+          c.take_plan_writes.new.holds c.take_plan_writes.ensures c.loop-scan.rows.items
+          c.judge_changed.new.rows.items _
           c.judge_changed.ensures.rows c.loop-scan.invariant.judged;
       there = all_judged net h c.loop-scan.rows.items c.judge_changed.new.rows.items
           c.judge_changed.ensures.rows c.loop-scan.invariant.there;
-      alike = λ same. next_alike net h c.advance.new.holds c.scan-item.result.plan.writes.items
-          c.loop-scan.rows.items c.judge_changed.new.rows.items c.advance.ensures
+      alike = λ same. next_alike net h c.take_plan_writes.new.holds c.scan-item.result.plan.writes.items
+          c.loop-scan.rows.items c.judge_changed.new.rows.items c.take_plan_writes.ensures
           (c.is_empty-changed.ensures.0 (was_empty c.is_empty-changed.result same))
           c.judge_changed.ensures.rows;
       room = c.judge_changed.ensures.room;
     }
 
-pub advance-requires : goal.advance-requires
-advance-requires c =
+pub take_plan_writes-requires : goal.take_plan_writes-requires
+take_plan_writes-requires c =
     writes_held c.args.net.now c.args.scans.now c.loop-scan.scan-index c.scan-item.result
     c.loop-scan-test.true c.scan-item.is c.loop-scan.holds c.loop-scan.invariant.can
 

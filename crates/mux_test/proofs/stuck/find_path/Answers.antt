@@ -21,12 +21,14 @@ returns-then-is_entry-clause-path c =
     entry_where c.args.net.now c.args.stuck c.args.holds.now (moves c.args.net.now - c.loop-turn._turn)
     c.loop-turn.at c.loop-turn.path.items (c.if-is_entry.ensures.0 refl) c.loop-turn.invariant.traced
 
-pub returns-then-not-meet-clause-path : goal.returns-then-not-meet-clause-path
-returns-then-not-meet-clause-path c =
-    let full = c.if-not-meet.ensures.full refl in
+pub returns-then-not-push_met_register-clause-path : goal.returns-then-not-push_met_register-clause-path
+returns-then-not-push_met_register-clause-path c =
+    let full = c.if-not-push_met_register.ensures.full refl in
     full_where c.args.net.now c.args.stuck c.args.holds.now (moves c.args.net.now - c.loop-turn._turn)
-    c.loop-turn.at c.loop-turn.path.items c.clear-then-not-meet.new.self.items c.requires.well_formed
-    full.1 (full.0 ∙ c.len-count.ensures) c.clear-then-not-meet.ensures.items c.loop-turn.invariant.traced
+    c.loop-turn.at c.loop-turn.path.items c.clear-then-not-push_met_register.new.self.items
+    c.requires.well_formed
+    full.1 (full.0 ∙ c.len-count.ensures) c.clear-then-not-push_met_register.ensures.items
+    c.loop-turn.invariant.traced
 
 pub returns-in-None-clause-path : goal.returns-in-None-clause-path
 returns-in-None-clause-path c =
@@ -53,14 +55,14 @@ pub loop-turn-preserved : goal.loop-turn-preserved
 loop-turn-preserved c =
     let net = c.args.net.now in
     let source = source_of net c.args.stuck c.args.holds.now in
-    let met = c.if-not-meet.ensures.met refl in
+    let met = c.if-not-push_met_register.ensures.met refl in
     let turn : c.loop-turn._turn < length net.regs.items + length net.muxes.items =
     omega (arith, c.loop-turn-test.true, c.len-count.ensures, c.len.ensures) in
     record {
       there = before_there net c.args.stuck c.args.holds.now c.loop-turn.at c.in-Some.before
           c.requires.well_formed c.loop-turn.invariant.there (sym c.in-Some.ensures);
-      few = omega (arith, c.if-not-meet.ensures.few, c.len-count.ensures);
-      room = omega (arith, c.if-not-meet.ensures.room, c.loop-turn.invariant.room);
+      few = omega (arith, c.if-not-push_met_register.ensures.few, c.len-count.ensures);
+      room = omega (arith, c.if-not-push_met_register.ensures.room, c.loop-turn.invariant.room);
       traced = by_turn net source c.loop-turn._turn c.loop-turn.at c.in-Some.before c.loop-turn.path.items
-          c.meet.new.into.items turn c.in-Some.ensures met c.loop-turn.invariant.traced;
+          c.push_met_register.new.into.items turn c.in-Some.ensures met c.loop-turn.invariant.traced;
     }

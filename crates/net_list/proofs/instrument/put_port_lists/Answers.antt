@@ -1,83 +1,89 @@
 use Rattle.ij_io.proofs.Adding.{adds_both, adds_front, adds_then_part, at_refusal, adds_as, adds_part_as}
 use Rattle.std.specs.Prelude.{ℕ, List, [], ◌++◌, codes}
 use Rattle.std.proofs.Common.{ap, ◌∙◌}
-use Rattle.net_list.specs.Forms.{either, items}
+use Rattle.net_list.specs.Forms.{text_or_json, items}
 use Rattle.net_list.specs.Lines.{input_text, output_text}
 use Rattle.net_list.proofs.instrument.put_port_lists.Goals as goal
 
-pub returns-in_err-put_either-clause-part : goal.returns-in_err-put_either-clause-part
-returns-in_err-put_either-clause-part g c = at_refusal c.from_residual.result
-    (adds_part_as (ap (λ (b : List ℕ). either c.args.format [] (codes ",\"in\":[")
-    ++ (items (input_text c.args.format c.args.net.now) b c.either-first.result.now c.args.ins.now
-    ++ (either c.args.format [] (codes "],\"out\":[") ++ (items (output_text c.args.format) b
-    c.either-first.result.now c.args.outs.now ++ either c.args.format [] (codes "]")))))
-    c.either-between.ensures ∙ ap (λ (a : List ℕ). either c.args.format [] (codes ",\"in\":[") ++ (items
-    (input_text c.args.format c.args.net.now) (either c.args.format (codes " ") (codes ",")) a c.args.ins.now
-    ++ (either c.args.format [] (codes "],\"out\":[") ++ (items (output_text c.args.format) (either
-    c.args.format (codes " ") (codes ",")) a c.args.outs.now ++ either c.args.format [] (codes "]")))))
-    c.either-first.ensures) (adds_front _ c.in_err-put_either.ensures.part))
+pub returns-in_err-put_text_or_json-clause-part : goal.returns-in_err-put_text_or_json-clause-part
+returns-in_err-put_text_or_json-clause-part g c = at_refusal c.from_residual.result
+    (adds_part_as (ap (λ (b : List ℕ). text_or_json c.args.format [] (codes ",\"in\":[")
+    ++ (items (input_text c.args.format c.args.net.now) b c.text_or_json-first.result.now c.args.ins.now
+    ++ (text_or_json c.args.format [] (codes "],\"out\":[") ++ (items (output_text c.args.format) b
+    c.text_or_json-first.result.now c.args.outs.now ++ text_or_json c.args.format [] (codes "]")))))
+    c.text_or_json-between.ensures ∙ ap (λ (a : List ℕ). text_or_json c.args.format [] (codes ",\"in\":[") ++ (items
+    (input_text c.args.format c.args.net.now) (text_or_json c.args.format (codes " ") (codes ",")) a c.args.ins.now
+    ++ (text_or_json c.args.format [] (codes "],\"out\":[") ++ (items (output_text c.args.format) (text_or_json
+    c.args.format (codes " ") (codes ",")) a c.args.outs.now ++ text_or_json c.args.format [] (codes "]")))))
+    c.text_or_json-first.ensures) (adds_front _ c.in_err-put_text_or_json.ensures.part))
 
 pub returns-in_err-put_inputs-clause-part : goal.returns-in_err-put_inputs-clause-part
 returns-in_err-put_inputs-clause-part g c = at_refusal c.from_residual-in_err-put_inputs.result
-    (adds_part_as (ap (λ (b : List ℕ). either c.args.format [] (codes ",\"in\":[")
-    ++ (items (input_text c.args.format c.args.net.now) b c.either-first.result.now c.args.ins.now ++ (either
-    c.args.format [] (codes "],\"out\":[") ++ (items (output_text c.args.format) b c.either-first.result.now
-    c.args.outs.now ++ either c.args.format [] (codes "]"))))) c.either-between.ensures ∙ ap (λ (a : List ℕ).
-    either c.args.format [] (codes ",\"in\":[") ++ (items (input_text c.args.format c.args.net.now)
-    (either c.args.format (codes " ") (codes ",")) a c.args.ins.now ++ (either c.args.format []
-    (codes "],\"out\":[") ++ (items (output_text c.args.format) (either c.args.format (codes " ") (codes ","))
-    a c.args.outs.now ++ either c.args.format [] (codes "]"))))) c.either-first.ensures)
-    (adds_then_part c.in_ok-put_either.ensures.whole (adds_front _ c.in_err-put_inputs.ensures.part)))
+    (adds_part_as (ap (λ (b : List ℕ). text_or_json c.args.format [] (codes ",\"in\":[")
+    ++ (items (input_text c.args.format c.args.net.now) b c.text_or_json-first.result.now c.args.ins.now ++
+    (text_or_json
+    c.args.format [] (codes "],\"out\":[") ++ (items (output_text c.args.format) b c.text_or_json-first.result.now
+    c.args.outs.now ++ text_or_json c.args.format [] (codes "]"))))) c.text_or_json-between.ensures ∙ ap (λ (a : List ℕ).
+    text_or_json c.args.format [] (codes ",\"in\":[") ++ (items (input_text c.args.format c.args.net.now)
+    (text_or_json c.args.format (codes " ") (codes ",")) a c.args.ins.now ++ (text_or_json c.args.format []
+    (codes "],\"out\":[") ++ (items (output_text c.args.format) (text_or_json c.args.format (codes " ") (codes ","))
+    a c.args.outs.now ++ text_or_json c.args.format [] (codes "]"))))) c.text_or_json-first.ensures)
+    (adds_then_part c.in_ok-put_text_or_json.ensures.whole (adds_front _ c.in_err-put_inputs.ensures.part)))
 
-pub returns-in_err-put_either-2-clause-part : goal.returns-in_err-put_either-2-clause-part
-returns-in_err-put_either-2-clause-part g c = at_refusal c.from_residual-in_err-put_either-2.result
-    (adds_part_as (ap (λ (b : List ℕ). either c.args.format [] (codes ",\"in\":[")
-    ++ (items (input_text c.args.format c.args.net.now) b c.either-first.result.now c.args.ins.now
-    ++ (either c.args.format [] (codes "],\"out\":[") ++ (items (output_text c.args.format) b
-    c.either-first.result.now c.args.outs.now ++ either c.args.format [] (codes "]")))))
-    c.either-between.ensures ∙ ap (λ (a : List ℕ). either c.args.format [] (codes ",\"in\":[") ++ (items
-    (input_text c.args.format c.args.net.now) (either c.args.format (codes " ") (codes ",")) a c.args.ins.now
-    ++ (either c.args.format [] (codes "],\"out\":[") ++ (items (output_text c.args.format) (either
-    c.args.format (codes " ") (codes ",")) a c.args.outs.now ++ either c.args.format [] (codes "]")))))
-    c.either-first.ensures) (adds_then_part c.in_ok-put_either.ensures.whole
-    (adds_then_part c.in_ok-put_inputs.ensures.whole (adds_front _ c.in_err-put_either-2.ensures.part))))
+pub returns-in_err-put_text_or_json-2-clause-part : goal.returns-in_err-put_text_or_json-2-clause-part
+returns-in_err-put_text_or_json-2-clause-part g c = at_refusal
+    c.from_residual-in_err-put_text_or_json-2.result
+    (adds_part_as (ap (λ (b : List ℕ). text_or_json c.args.format [] (codes ",\"in\":[")
+    ++ (items (input_text c.args.format c.args.net.now) b c.text_or_json-first.result.now c.args.ins.now
+    ++ (text_or_json c.args.format [] (codes "],\"out\":[") ++ (items (output_text c.args.format) b
+    c.text_or_json-first.result.now c.args.outs.now ++ text_or_json c.args.format [] (codes "]")))))
+    c.text_or_json-between.ensures ∙ ap (λ (a : List ℕ). text_or_json c.args.format [] (codes ",\"in\":[") ++ (items
+    (input_text c.args.format c.args.net.now) (text_or_json c.args.format (codes " ") (codes ",")) a c.args.ins.now
+    ++ (text_or_json c.args.format [] (codes "],\"out\":[") ++ (items (output_text c.args.format) (text_or_json
+    c.args.format (codes " ") (codes ",")) a c.args.outs.now ++ text_or_json c.args.format [] (codes "]")))))
+    c.text_or_json-first.ensures) (adds_then_part c.in_ok-put_text_or_json.ensures.whole
+    (adds_then_part c.in_ok-put_inputs.ensures.whole (adds_front _
+    c.in_err-put_text_or_json-2.ensures.part))))
 
 pub returns-in_err-put_outputs-clause-part : goal.returns-in_err-put_outputs-clause-part
 returns-in_err-put_outputs-clause-part g c = at_refusal c.from_residual-in_err-put_outputs.result
-    (adds_part_as (ap (λ (b : List ℕ). either c.args.format [] (codes ",\"in\":[")
-    ++ (items (input_text c.args.format c.args.net.now) b c.either-first.result.now c.args.ins.now ++ (either
-    c.args.format [] (codes "],\"out\":[") ++ (items (output_text c.args.format) b c.either-first.result.now
-    c.args.outs.now ++ either c.args.format [] (codes "]"))))) c.either-between.ensures ∙ ap (λ (a : List ℕ).
-    either c.args.format [] (codes ",\"in\":[") ++ (items (input_text c.args.format c.args.net.now)
-    (either c.args.format (codes " ") (codes ",")) a c.args.ins.now ++ (either c.args.format []
-    (codes "],\"out\":[") ++ (items (output_text c.args.format) (either c.args.format (codes " ") (codes ","))
-    a c.args.outs.now ++ either c.args.format [] (codes "]"))))) c.either-first.ensures)
-    (adds_then_part c.in_ok-put_either.ensures.whole (adds_then_part c.in_ok-put_inputs.ensures.whole
-    (adds_then_part c.in_ok-put_either-2.ensures.whole (adds_front _ c.in_err-put_outputs.ensures.part)))))
+    (adds_part_as (ap (λ (b : List ℕ). text_or_json c.args.format [] (codes ",\"in\":[")
+    ++ (items (input_text c.args.format c.args.net.now) b c.text_or_json-first.result.now c.args.ins.now ++
+    (text_or_json
+    c.args.format [] (codes "],\"out\":[") ++ (items (output_text c.args.format) b c.text_or_json-first.result.now
+    c.args.outs.now ++ text_or_json c.args.format [] (codes "]"))))) c.text_or_json-between.ensures ∙ ap (λ (a : List ℕ).
+    text_or_json c.args.format [] (codes ",\"in\":[") ++ (items (input_text c.args.format c.args.net.now)
+    (text_or_json c.args.format (codes " ") (codes ",")) a c.args.ins.now ++ (text_or_json c.args.format []
+    (codes "],\"out\":[") ++ (items (output_text c.args.format) (text_or_json c.args.format (codes " ") (codes ","))
+    a c.args.outs.now ++ text_or_json c.args.format [] (codes "]"))))) c.text_or_json-first.ensures)
+    (adds_then_part c.in_ok-put_text_or_json.ensures.whole (adds_then_part c.in_ok-put_inputs.ensures.whole
+    (adds_then_part c.in_ok-put_text_or_json-2.ensures.whole (adds_front _
+    c.in_err-put_outputs.ensures.part)))))
 
-pub returns-in_err-put_either-3-clause-part : goal.returns-in_err-put_either-3-clause-part
-returns-in_err-put_either-3-clause-part g c = at_refusal c.from_residual-in_err-put_either-3.result
-    (adds_part_as (ap (λ (b : List ℕ). either c.args.format [] (codes ",\"in\":[")
-    ++ (items (input_text c.args.format c.args.net.now) b c.either-first.result.now c.args.ins.now
-    ++ (either c.args.format [] (codes "],\"out\":[") ++ (items (output_text c.args.format) b
-    c.either-first.result.now c.args.outs.now ++ either c.args.format [] (codes "]")))))
-    c.either-between.ensures ∙ ap (λ (a : List ℕ). either c.args.format [] (codes ",\"in\":[") ++ (items
-    (input_text c.args.format c.args.net.now) (either c.args.format (codes " ") (codes ",")) a c.args.ins.now
-    ++ (either c.args.format [] (codes "],\"out\":[") ++ (items (output_text c.args.format) (either
-    c.args.format (codes " ") (codes ",")) a c.args.outs.now ++ either c.args.format [] (codes "]")))))
-    c.either-first.ensures) (adds_then_part c.in_ok-put_either.ensures.whole
-    (adds_then_part c.in_ok-put_inputs.ensures.whole (adds_then_part c.in_ok-put_either-2.ensures.whole
-    (adds_then_part c.in_ok-put_outputs.ensures.whole c.in_err-put_either-3.ensures.part)))))
+pub returns-in_err-put_text_or_json-3-clause-part : goal.returns-in_err-put_text_or_json-3-clause-part
+returns-in_err-put_text_or_json-3-clause-part g c = at_refusal
+    c.from_residual-in_err-put_text_or_json-3.result
+    (adds_part_as (ap (λ (b : List ℕ). text_or_json c.args.format [] (codes ",\"in\":[")
+    ++ (items (input_text c.args.format c.args.net.now) b c.text_or_json-first.result.now c.args.ins.now
+    ++ (text_or_json c.args.format [] (codes "],\"out\":[") ++ (items (output_text c.args.format) b
+    c.text_or_json-first.result.now c.args.outs.now ++ text_or_json c.args.format [] (codes "]")))))
+    c.text_or_json-between.ensures ∙ ap (λ (a : List ℕ). text_or_json c.args.format [] (codes ",\"in\":[") ++ (items
+    (input_text c.args.format c.args.net.now) (text_or_json c.args.format (codes " ") (codes ",")) a c.args.ins.now
+    ++ (text_or_json c.args.format [] (codes "],\"out\":[") ++ (items (output_text c.args.format) (text_or_json
+    c.args.format (codes " ") (codes ",")) a c.args.outs.now ++ text_or_json c.args.format [] (codes "]")))))
+    c.text_or_json-first.ensures) (adds_then_part c.in_ok-put_text_or_json.ensures.whole
+    (adds_then_part c.in_ok-put_inputs.ensures.whole (adds_then_part c.in_ok-put_text_or_json-2.ensures.whole
+    (adds_then_part c.in_ok-put_outputs.ensures.whole c.in_err-put_text_or_json-3.ensures.part)))))
 
 pub returns-clause-whole : goal.returns-clause-whole
-returns-clause-whole g c = adds_as (ap (λ (b : List ℕ). either c.args.format [] (codes ",\"in\":[")
-    ++ (items (input_text c.args.format c.args.net.now) b c.either-first.result.now c.args.ins.now
-    ++ (either c.args.format [] (codes "],\"out\":[") ++ (items (output_text c.args.format) b
-    c.either-first.result.now c.args.outs.now ++ either c.args.format [] (codes "]")))))
-    c.either-between.ensures ∙ ap (λ (a : List ℕ). either c.args.format [] (codes ",\"in\":[") ++ (items
-    (input_text c.args.format c.args.net.now) (either c.args.format (codes " ") (codes ",")) a c.args.ins.now
-    ++ (either c.args.format [] (codes "],\"out\":[") ++ (items (output_text c.args.format) (either
-    c.args.format (codes " ") (codes ",")) a c.args.outs.now ++ either c.args.format [] (codes "]")))))
-    c.either-first.ensures) (adds_both c.in_ok-put_either.ensures.whole
-    (adds_both c.in_ok-put_inputs.ensures.whole (adds_both c.in_ok-put_either-2.ensures.whole
-    (adds_both c.in_ok-put_outputs.ensures.whole c.in_ok-put_either-3.ensures.whole))))
+returns-clause-whole g c = adds_as (ap (λ (b : List ℕ). text_or_json c.args.format [] (codes ",\"in\":[")
+    ++ (items (input_text c.args.format c.args.net.now) b c.text_or_json-first.result.now c.args.ins.now
+    ++ (text_or_json c.args.format [] (codes "],\"out\":[") ++ (items (output_text c.args.format) b
+    c.text_or_json-first.result.now c.args.outs.now ++ text_or_json c.args.format [] (codes "]")))))
+    c.text_or_json-between.ensures ∙ ap (λ (a : List ℕ). text_or_json c.args.format [] (codes ",\"in\":[") ++ (items
+    (input_text c.args.format c.args.net.now) (text_or_json c.args.format (codes " ") (codes ",")) a c.args.ins.now
+    ++ (text_or_json c.args.format [] (codes "],\"out\":[") ++ (items (output_text c.args.format) (text_or_json
+    c.args.format (codes " ") (codes ",")) a c.args.outs.now ++ text_or_json c.args.format [] (codes "]")))))
+    c.text_or_json-first.ensures) (adds_both c.in_ok-put_text_or_json.ensures.whole
+    (adds_both c.in_ok-put_inputs.ensures.whole (adds_both c.in_ok-put_text_or_json-2.ensures.whole
+    (adds_both c.in_ok-put_outputs.ensures.whole c.in_ok-put_text_or_json-3.ensures.whole))))

@@ -27,7 +27,8 @@ loop-j-preserved g c =
     let more : n ≡ suc m = omega (arith, c.loop-j-test.true) in
     let place : length bits - 1 - c.loop-j.j ≡ m = omega arith in
     record {
-      front = bit_next f net before bits n m _ c.from_left.result c.either-between.result.now more place
-          c.from_left.ensures c.either-between.ensures c.loop-j.invariant.front c.in_ok-put_bit.ensures.whole;
+      front = bit_next f net before bits n m _ c.from_left.result c.text_or_json-between.result.now more place
+          c.from_left.ensures c.text_or_json-between.ensures c.loop-j.invariant.front
+          c.in_ok-put_bit.ensures.whole;
       later = omega (arith, c.put_bit.ensures.cause.later);
     }

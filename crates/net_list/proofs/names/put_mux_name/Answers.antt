@@ -5,20 +5,22 @@ pub returns-in_err-write-clause-part : goal.returns-in_err-write-clause-part
 returns-in_err-write-clause-part g c =
     at_refusal c.from_residual.result (adds_front _ c.in_err-write.ensures.part)
 
-pub returns-in_err-put_either-clause-part : goal.returns-in_err-put_either-clause-part
-returns-in_err-put_either-clause-part g c = at_refusal c.from_residual-in_err-put_either.result
-    (adds_then_part c.in_ok-write.ensures.whole (adds_front _ c.in_err-put_either.ensures.part))
+pub returns-in_err-put_text_or_json-clause-part : goal.returns-in_err-put_text_or_json-clause-part
+returns-in_err-put_text_or_json-clause-part g c = at_refusal c.from_residual-in_err-put_text_or_json.result
+    (adds_then_part c.in_ok-write.ensures.whole (adds_front _ c.in_err-put_text_or_json.ensures.part))
 
 pub returns-in_err-put_mux_path-clause-part : goal.returns-in_err-put_mux_path-clause-part
 returns-in_err-put_mux_path-clause-part g c =
     at_refusal c.from_residual-in_err-put_mux_path.result (adds_then_part c.in_ok-write.ensures.whole
-    (adds_then_part c.in_ok-put_either.ensures.whole (adds_front _ c.in_err-put_mux_path.ensures.part)))
+    (adds_then_part c.in_ok-put_text_or_json.ensures.whole (adds_front _ c.in_err-put_mux_path.ensures.part)))
 
-pub returns-in_err-put_either-2-clause-part : goal.returns-in_err-put_either-2-clause-part
-returns-in_err-put_either-2-clause-part g c = at_refusal c.from_residual-in_err-put_either-2.result
-    (adds_then_part c.in_ok-write.ensures.whole (adds_then_part c.in_ok-put_either.ensures.whole
-    (adds_then_part c.in_ok-put_mux_path.ensures.whole c.in_err-put_either-2.ensures.part)))
+pub returns-in_err-put_text_or_json-2-clause-part : goal.returns-in_err-put_text_or_json-2-clause-part
+returns-in_err-put_text_or_json-2-clause-part g c = at_refusal
+    c.from_residual-in_err-put_text_or_json-2.result
+    (adds_then_part c.in_ok-write.ensures.whole (adds_then_part c.in_ok-put_text_or_json.ensures.whole
+    (adds_then_part c.in_ok-put_mux_path.ensures.whole c.in_err-put_text_or_json-2.ensures.part)))
 
 pub returns-clause-whole : goal.returns-clause-whole
-returns-clause-whole g c = adds_both c.in_ok-write.ensures.whole (adds_both c.in_ok-put_either.ensures.whole
-    (adds_both c.in_ok-put_mux_path.ensures.whole c.in_ok-put_either-2.ensures.whole))
+returns-clause-whole g c = adds_both c.in_ok-write.ensures.whole (adds_both
+    c.in_ok-put_text_or_json.ensures.whole
+    (adds_both c.in_ok-put_mux_path.ensures.whole c.in_ok-put_text_or_json-2.ensures.whole))

@@ -25,14 +25,14 @@ returns-in_err-put_count-5-clause-part g c =
     (adds_then_part c.in_ok-put_count-2.ensures.whole (adds_then_part c.in_ok-put_count-3.ensures.whole
     (adds_then_part c.in_ok-put_count-4.ensures.whole (adds_front _ c.in_err-put_count-5.ensures.part)))))
 
-pub returns-in_err-put_either-clause-part : goal.returns-in_err-put_either-clause-part
-returns-in_err-put_either-clause-part g c = at_refusal c.from_residual-in_err-put_either.result
+pub returns-in_err-put_text_or_json-clause-part : goal.returns-in_err-put_text_or_json-clause-part
+returns-in_err-put_text_or_json-clause-part g c = at_refusal c.from_residual-in_err-put_text_or_json.result
     (adds_then_part c.in_ok-put_count.ensures.whole (adds_then_part c.in_ok-put_count-2.ensures.whole
     (adds_then_part c.in_ok-put_count-3.ensures.whole (adds_then_part c.in_ok-put_count-4.ensures.whole
-    (adds_then_part c.in_ok-put_count-5.ensures.whole c.in_err-put_either.ensures.part)))))
+    (adds_then_part c.in_ok-put_count-5.ensures.whole c.in_err-put_text_or_json.ensures.part)))))
 
 pub returns-clause-whole : goal.returns-clause-whole
 returns-clause-whole g c =
     adds_both c.in_ok-put_count.ensures.whole (adds_both c.in_ok-put_count-2.ensures.whole
     (adds_both c.in_ok-put_count-3.ensures.whole (adds_both c.in_ok-put_count-4.ensures.whole
-    (adds_both c.in_ok-put_count-5.ensures.whole c.in_ok-put_either.ensures.whole))))
+    (adds_both c.in_ok-put_count-5.ensures.whole c.in_ok-put_text_or_json.ensures.whole))))

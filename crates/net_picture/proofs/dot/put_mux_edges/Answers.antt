@@ -6,7 +6,7 @@ use Rattle.net_graph.specs.declared.net.Point.TheVariants.{Mux}
 use Rattle.net_graph.specs.Path.{row_of, rows_of}
 use Rattle.net_list.specs.Listing.{lines_from}
 use Rattle.net_picture.specs.Dot.{row_line, select_edge}
-use Rattle.net_picture.specs.Met.{is_met}
+use Rattle.net_picture.specs.Met.{is_on_path}
 use Rattle.net_picture.proofs.dot.put_mux_edges.Goals as goal
 
 pub returns-in_err-put_row_edges-clause-part : goal.returns-in_err-put_row_edges-clause-part
@@ -18,9 +18,9 @@ returns-in_err-put_row_edges-clause-part g c =
     (row_line net active selected m) 0 (length (rows_of net m)) ++ flat_map (select_edge m) bits in
     let bits = c.select_bits-bits.result.now in
     let selected = c.row_of-selected.result in
-    let same = ap (λ (b : Bool). text b selected bits) c.is_met-active.ensures
-    ∙ ap (λ (o : Option ℕ). text (is_met met (Mux m)) o bits) c.row_of-selected.ensures
-    ∙ ap (text (is_met met (Mux m)) (row_of net c.args.holds.now m)) c.select_bits-bits.ensures in
+    let same = ap (λ (b : Bool). text b selected bits) c.is_on_path-active.ensures
+    ∙ ap (λ (o : Option ℕ). text (is_on_path met (Mux m)) o bits) c.row_of-selected.ensures
+    ∙ ap (text (is_on_path met (Mux m)) (row_of net c.args.holds.now m)) c.select_bits-bits.ensures in
     at_refusal c.from_residual.result (adds_part_as same (adds_front _ c.in_err-put_row_edges.ensures.part))
 
 pub returns-in_err-put_select_edges-clause-part : goal.returns-in_err-put_select_edges-clause-part
@@ -32,9 +32,9 @@ returns-in_err-put_select_edges-clause-part g c =
     (row_line net active selected m) 0 (length (rows_of net m)) ++ flat_map (select_edge m) bits in
     let bits = c.select_bits-bits.result.now in
     let selected = c.row_of-selected.result in
-    let same = ap (λ (b : Bool). text b selected bits) c.is_met-active.ensures
-    ∙ ap (λ (o : Option ℕ). text (is_met met (Mux m)) o bits) c.row_of-selected.ensures
-    ∙ ap (text (is_met met (Mux m)) (row_of net c.args.holds.now m)) c.select_bits-bits.ensures in
+    let same = ap (λ (b : Bool). text b selected bits) c.is_on_path-active.ensures
+    ∙ ap (λ (o : Option ℕ). text (is_on_path met (Mux m)) o bits) c.row_of-selected.ensures
+    ∙ ap (text (is_on_path met (Mux m)) (row_of net c.args.holds.now m)) c.select_bits-bits.ensures in
     at_refusal c.from_residual-in_err-put_select_edges.result (adds_part_as same
     (adds_then_part c.in_ok-put_row_edges.ensures.whole c.in_err-put_select_edges.ensures.part))
 
@@ -47,7 +47,7 @@ returns-clause-whole g c =
     (row_line net active selected m) 0 (length (rows_of net m)) ++ flat_map (select_edge m) bits in
     let bits = c.select_bits-bits.result.now in
     let selected = c.row_of-selected.result in
-    let same = ap (λ (b : Bool). text b selected bits) c.is_met-active.ensures
-    ∙ ap (λ (o : Option ℕ). text (is_met met (Mux m)) o bits) c.row_of-selected.ensures
-    ∙ ap (text (is_met met (Mux m)) (row_of net c.args.holds.now m)) c.select_bits-bits.ensures in
+    let same = ap (λ (b : Bool). text b selected bits) c.is_on_path-active.ensures
+    ∙ ap (λ (o : Option ℕ). text (is_on_path met (Mux m)) o bits) c.row_of-selected.ensures
+    ∙ ap (text (is_on_path met (Mux m)) (row_of net c.args.holds.now m)) c.select_bits-bits.ensures in
     adds_as same (adds_both c.in_ok-put_row_edges.ensures.whole c.in_ok-put_select_edges.ensures.whole)

@@ -15,6 +15,6 @@ returns-clause-part g c =
     (ap (λ (label : List ℕ). node_text (codes "  m") m label form c.node_style-style.result.now)
     (c.bytes.ensures ∙ c.in_ok-label.ensures)
     ∙ ap (node_text (codes "  m") m (mux_path c.args.net.now m) form)
-    (c.node_style-style.ensures ∙ ap (λ (b : Bool). node_style b c.is_met.result) c.is_marked.ensures
-    ∙ ap (node_style (is_marked c.args.marks.marked (Mux m))) c.is_met.ensures))
+    (c.node_style-style.ensures ∙ ap (λ (b : Bool). node_style b c.is_on_path.result) c.is_marked.ensures
+    ∙ ap (node_style (is_marked c.args.marks.marked (Mux m))) c.is_on_path.ensures))
     c.put_node.ensures.part

@@ -6,7 +6,7 @@ use Rattle.net_picture.specs.declared.pen.Pen.{Pen}
 use Rattle.net_picture.specs.declared.shape.Shape.{Shape}
 use Rattle.net_picture.specs.Layout.{drawn, pen_after, fan_after, register_drawn, row_ends, rows_drawn}
 use Rattle.net_picture.specs.Layout.{row_wire}
-use Rattle.net_picture.specs.Pens.{after_register, ready}
+use Rattle.net_picture.specs.Pens.{after_register, next_wire_start}
 use Rattle.net_picture.specs.Plan.{seen_plan}
 use Rattle.net_picture.specs.Walk.{ItemsAreLeft, RowsAreLeft}
 use Rattle.net_picture.proofs.Walking.{entry_at, none_left, all_left, register_left, mux_left, MuxIsDrawn}
@@ -24,7 +24,7 @@ draw_item-returns-in_ok-pen-in-Reg-clause-left t c end all left =
     register_left plan c.args.active (drop i es) reg (drop (i + 1) es) c.args.done.pen c.in_ok-pen-in-Reg.pen
     end c.args.shapes.now.items c.draw_register.new.shapes.items all
     (entry_at es i (Reg reg) c.requires c.in-Reg.is)
-    (c.in_ok-pen-in-Reg.ensures.pen ∙ ap (after_register (ready c.args.done.pen)) width)
+    (c.in_ok-pen-in-Reg.ensures.pen ∙ ap (after_register (next_wire_start c.args.done.pen)) width)
     (c.in_ok-pen-in-Reg.ensures.shapes
     ∙ ap (λ (n : ℕ). c.args.shapes.now.items ++ register_drawn c.args.active c.args.done.pen reg n) width)
     left
@@ -92,8 +92,8 @@ draw_row-returns-in_ok-fan-in-Row-clause-left t c k after end all all_ends left 
     let f = c.args.done.fan in
     let span = c.in-Row.span in
     let tail = drop (i + 1) es in
-    let on = c.shows-active.result in
-    let shown = c.shows-active.ensures in
+    let on = c.is_row_active-active.result in
+    let shown = c.is_row_active-active.ensures in
     let start = c.in_ok-start-in-Row.start in
     let pen = c.in_ok-pen-in-Row.pen in
     let part = take (c.span_end-end.result - (i + 1)) tail in

@@ -13,6 +13,7 @@ loop-turn-preserved c =
     record {
       there = c.in_ok-next.ensures.there;
       so_far = met_turn net c.args.holds.now n m c.loop-turn.next c.in_ok-next.next c.loop-turn.points.items
-          c.meet.new.points.items (met_from net c.args.holds.now c.most_moves-most.result (Some net.out)) more
+          c.add_path_point.new.points.items (met_from net c.args.holds.now c.most_moves-most.result (Some
+          net.out)) more
           c.in_ok-next.ensures.left c.loop-turn.invariant.so_far;
     }

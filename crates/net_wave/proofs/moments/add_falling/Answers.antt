@@ -44,13 +44,13 @@ returns-clause-text c =
     let was = c.args.instruction.now.items in
     let is = bits_digits b.state.ir_hold in
     let now = values chip models c.args.vars.now c.args.scene.now.pins b.state in
-    five c.args.piece.now c.add.new.piece c.add_if.new.piece c.add_pins.new.piece
-    c.add_changes.new.piece c.add_if-2.new.piece
+    five c.args.piece.now c.add.new.piece c.add_words_if.new.piece c.add_pins.new.piece
+    c.add_changes.new.piece c.add_words_if-2.new.piece
     c.args.digits.now (cond first (codes "\n$dumpvars") [])
     (pins_text first c.args.last.now c.args.now.now was is)
     (flat_map change_text (later_changes first told now)) (cond first (codes "$end\n") [])
-    c.in_ok-add.ensures c.in_ok-add_if.ensures c.in_ok-add_pins.ensures.text
-    c.in_ok-add_changes.ensures.text c.in_ok-add_if-2.ensures
+    c.in_ok-add.ensures c.in_ok-add_words_if.ensures c.in_ok-add_pins.ensures.text
+    c.in_ok-add_changes.ensures.text c.in_ok-add_words_if-2.ensures
     ∙ ap (λ (l : List ℕ). c.args.piece.now ++ l) (falling_is first c.args.clock c.args.last.now c.args.now.now
     was is told now c.args.digits.now c.requires.digits)
     ∙ ap (λ (l : List (List ℕ)). c.args.piece.now

@@ -30,7 +30,7 @@ returns-in_err-piece-clause-part g c =
     c.loop-piece.invariant.front more.2 more.1 in
     at_refusal _
     (is_part files c.args.name.now old (left_text c.args.playing.now) later c.add_next.new.piece
-    (g.S.Shelf.files c.next_piece.new.shelf) front c.in_err-piece.ensures.part)
+    (g.S.Shelf.files c.store_full_piece.new.shelf) front c.in_err-piece.ensures.part)
 
 pub loop-piece-preserved : goal.loop-piece-preserved
 loop-piece-preserved g c =
@@ -45,13 +45,14 @@ loop-piece-preserved g c =
       playing = c.in_ok-add_next.ensures.playing c.if-branch.true;
       differs = c.in_ok-add_next.ensures.differs ∙ c.loop-piece.invariant.differs;
       front = gone files c.args.name.now old all later c.add_next.new.piece c.in_ok-piece.piece
-          (g.S.Shelf.files c.next_piece.new.shelf) front c.in_ok-piece.ensures.whole;
+          (g.S.Shelf.files c.store_full_piece.new.shelf) front c.in_ok-piece.ensures.whole;
       there = c.in_ok-piece.ensures.there;
-      others = λ other n. c.next_piece.ensures.others other n ∙ c.loop-piece.invariant.others other n;
+      others = λ other n. c.store_full_piece.ensures.others other n ∙ c.loop-piece.invariant.others other n;
       later = one_later c.args.name.now (g.S.Shelf.store_faults c.args.shelf.now)
-          (g.S.Shelf.store_faults c.loop-piece.shelf) (g.S.Shelf.store_faults c.next_piece.new.shelf) _ _
-          c.loop-piece.invariant.later c.next_piece.ensures.cause;
-      loads = λ name. c.next_piece.ensures.loads name ∙ c.loop-piece.invariant.loads name;
+          (g.S.Shelf.store_faults c.loop-piece.shelf) (g.S.Shelf.store_faults c.store_full_piece.new.shelf)
+          _ _
+          c.loop-piece.invariant.later c.store_full_piece.ensures.cause;
+      loads = λ name. c.store_full_piece.ensures.loads name ∙ c.loop-piece.invariant.loads name;
     }
 
 pub returns-clause-whole : goal.returns-clause-whole

@@ -20,8 +20,8 @@ settling_plan-requires-clause-rows c =
     rows_there (IsBranchOf net) (λ r. place_of c.args.tree.now (FromReg r)) c.args.regs.now
     (replicate (length net.muxes.items) false) c.args.rows.now c.requires.rows places
 
-pub advance-requires : goal.advance-requires
-advance-requires c =
+pub take_plan_writes-requires : goal.take_plan_writes-requires
+take_plan_writes-requires c =
     let net = c.args.net.now in
     let form = c.args.tree.now in
     let group = seen_group c.args.group.now in
@@ -46,9 +46,9 @@ walk-requires-clause-holds c =
     (c.as_slice-path.ensures ∙ ap (λ (l : Roomy ℕ). l.items) c.regs-in-opening.ensures) c.requires.regs
     c.requires.regs c.all_on.ensures c.opening-test.true c.requires.rows
     c.in_ok-plan.ensures.writes c.in_ok-plan.ensures.reads in
-    (after_can net form group c.args.now.now c.opening.now c.advance.new.holds c.opening.plans.items
+    (after_can net form group c.args.now.now c.opening.now c.take_plan_writes.new.holds c.opening.plans.items
     c.push.new.self.items c.in_ok-plan.plan c.opening.invariant.can s
-    c.advance.ensures c.in_ok-push.ensures.ok).listed.widths
+    c.take_plan_writes.ensures c.in_ok-push.ensures.ok).listed.widths
 
 pub walk-requires-clause-listed : goal.walk-requires-clause-listed
 walk-requires-clause-listed c =
@@ -62,9 +62,9 @@ walk-requires-clause-listed c =
     (c.as_slice-path.ensures ∙ ap (λ (l : Roomy ℕ). l.items) c.regs-in-opening.ensures) c.requires.regs
     c.requires.regs c.all_on.ensures c.opening-test.true c.requires.rows
     c.in_ok-plan.ensures.writes c.in_ok-plan.ensures.reads in
-    (after_can net form group c.args.now.now c.opening.now c.advance.new.holds c.opening.plans.items
+    (after_can net form group c.args.now.now c.opening.now c.take_plan_writes.new.holds c.opening.plans.items
     c.push.new.self.items c.in_ok-plan.plan c.opening.invariant.can s
-    c.advance.ensures c.in_ok-push.ensures.ok).listed.rows
+    c.take_plan_writes.ensures c.in_ok-push.ensures.ok).listed.rows
 
 pub opening-smaller : goal.opening-smaller
 opening-smaller c =
@@ -78,8 +78,8 @@ opening-smaller c =
     (c.as_slice-path.ensures ∙ ap (λ (l : Roomy ℕ). l.items) c.regs-in-opening.ensures) c.requires.regs
     c.requires.regs c.all_on.ensures c.opening-test.true c.requires.rows
     c.in_ok-plan.ensures.writes c.in_ok-plan.ensures.reads in
-    fewer_left net form group c.args.now.now c.opening.now c.advance.new.holds c.opening.plans.items
-    c.push.new.self.items c.in_ok-plan.plan c.opening.invariant.can s c.advance.ensures
+    fewer_left net form group c.args.now.now c.opening.now c.take_plan_writes.new.holds c.opening.plans.items
+    c.push.new.self.items c.in_ok-plan.plan c.opening.invariant.can s c.take_plan_writes.ensures
     c.in_ok-push.ensures.ok c.opening.invariant.opened s.off_path
 
 pub opening-preserved : goal.opening-preserved
@@ -95,15 +95,16 @@ opening-preserved c =
     c.requires.regs c.all_on.ensures c.opening-test.true c.requires.rows
     c.in_ok-plan.ensures.writes c.in_ok-plan.ensures.reads in
     record {
-      can = after_can net form group c.args.now.now c.opening.now c.advance.new.holds c.opening.plans.items
+      can = after_can net form group c.args.now.now c.opening.now c.take_plan_writes.new.holds
+          c.opening.plans.items
           c.push.new.self.items c.in_ok-plan.plan c.opening.invariant.can s
-          c.advance.ensures c.in_ok-push.ensures.ok;
-      opened = after_open net form group c.args.now.now c.opening.now c.advance.new.holds
+          c.take_plan_writes.ensures c.in_ok-push.ensures.ok;
+      opened = after_open net form group c.args.now.now c.opening.now c.take_plan_writes.new.holds
           c.opening.plans.items c.push.new.self.items c.in_ok-plan.plan c.opening.invariant.can s
-          c.advance.ensures c.in_ok-push.ensures.ok c.opening.invariant.opened;
-      so_far = after_plans net form group c.args.now.now c.opening.now c.advance.new.holds
+          c.take_plan_writes.ensures c.in_ok-push.ensures.ok c.opening.invariant.opened;
+      so_far = after_plans net form group c.args.now.now c.opening.now c.take_plan_writes.new.holds
           c.opening.plans.items c.push.new.self.items c.in_ok-plan.plan c.opening.invariant.can s
-          c.advance.ensures c.in_ok-push.ensures.ok c.opening.invariant.so_far;
+          c.take_plan_writes.ensures c.in_ok-push.ensures.ok c.opening.invariant.so_far;
       path = c.walk.ensures.path;
       room = c.walk.ensures.room;
     }

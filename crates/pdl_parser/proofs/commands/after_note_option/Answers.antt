@@ -11,5 +11,5 @@ pub returns-clause-gives : goal.returns-clause-gives
 returns-clause-gives c =
     let ws = words c.args.lexemes.now in
     subst (λ (rest : List Word). Passes read_maybe_note_option ws rest)
-    (sym (c.after.ensures.rest ∙ ap (λ b. cond b (drop 1 ws) ws) c.begins_note_option.ensures))
+    (sym (c.skip_word_if.ensures.rest ∙ ap (λ b. cond b (drop 1 ws) ws) c.begins_note_option.ensures))
     (passes (plain_at note_text) ws)

@@ -11,5 +11,5 @@ pub returns-clause-gives : goal.returns-clause-gives
 returns-clause-gives c =
     let ws = words c.args.lexemes.now in
     subst (λ (rest : List Word). Passes (read_maybe_word c.args.text.now) ws rest)
-    (sym (c.after.ensures.rest ∙ ap (λ b. cond b (drop 1 ws) ws) c.begins_word.ensures))
+    (sym (c.skip_word_if.ensures.rest ∙ ap (λ b. cond b (drop 1 ws) ws) c.is_next_word.ensures))
     (passes (word_at c.args.text.now) ws)

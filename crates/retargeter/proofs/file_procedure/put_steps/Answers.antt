@@ -44,7 +44,7 @@ returns-in_err-piece-clause-part g c =
     at_refusal _
     (is_part c.args.session.now c.args.steps.now.steps old c.args.name.now c.put_step.new.self
     c.next_step.new.steps.steps files c.put_step.new.k go
-    (g.S.Shelf.files c.next_piece.new.shelf) c.in_err-piece.ensures.part)
+    (g.S.Shelf.files c.store_full_piece.new.shelf) c.in_err-piece.ensures.part)
 
 pub loop-piece-preserved-in_ok-piece : goal.loop-piece-preserved-in_ok-piece
 loop-piece-preserved-in_ok-piece g c =
@@ -57,7 +57,8 @@ loop-piece-preserved-in_ok-piece g c =
           c.args.name.now c.args.piece) c.args.name.now c.loop-piece.session c.loop-piece.steps.steps
           (g.S.Shelf.files c.loop-piece.shelf) c.loop-piece.piece c.loop-piece.invariant.go
           (seen_step c.in-Some.step) c.next_step.new.steps.steps c.put_step.new.self c.put_step.new.k
-          c.in_ok-piece.piece (g.S.Shelf.files c.next_piece.new.shelf) next c.in_ok-put_step.ensures.whole
+          c.in_ok-piece.piece (g.S.Shelf.files c.store_full_piece.new.shelf) next
+          c.in_ok-put_step.ensures.whole
           c.in_ok-put_step.ensures.after c.in_ok-piece.ensures.whole;
       there = c.in_ok-piece.ensures.there;
       plannable = plannable_later c.loop-piece.steps.steps c.next_step.new.steps.steps
@@ -68,11 +69,12 @@ loop-piece-preserved-in_ok-piece g c =
       few = few_steps c.loop-piece.steps.steps c.next_step.new.steps.steps
           (seen_step c.in-Some.step) next c.loop-piece.session c.put_step.new.self c.put_step.ensures.plan
           c.in_ok-put_step.ensures.after c.loop-piece.invariant.few;
-      others = λ other n. c.next_piece.ensures.others other n ∙ c.loop-piece.invariant.others other n;
+      others = λ other n. c.store_full_piece.ensures.others other n ∙ c.loop-piece.invariant.others other n;
       later = one_later c.args.name.now (g.S.Shelf.store_faults c.args.shelf.now)
-          (g.S.Shelf.store_faults c.loop-piece.shelf) (g.S.Shelf.store_faults c.next_piece.new.shelf) _ _
-          c.loop-piece.invariant.later c.next_piece.ensures.cause;
-      loads = λ name. c.next_piece.ensures.loads name ∙ c.loop-piece.invariant.loads name;
+          (g.S.Shelf.store_faults c.loop-piece.shelf) (g.S.Shelf.store_faults c.store_full_piece.new.shelf)
+          _ _
+          c.loop-piece.invariant.later c.store_full_piece.ensures.cause;
+      loads = λ name. c.store_full_piece.ensures.loads name ∙ c.loop-piece.invariant.loads name;
     }
 
 pub loop-piece-preserved : goal.loop-piece-preserved
@@ -86,7 +88,8 @@ loop-piece-preserved g c =
           c.args.name.now c.args.piece) c.args.name.now c.loop-piece.session c.loop-piece.steps.steps
           (g.S.Shelf.files c.loop-piece.shelf) c.loop-piece.piece c.loop-piece.invariant.go
           (seen_step c.in-Some.step) c.next_step.new.steps.steps c.put_step.new.self c.put_step.new.k
-          c.in_ok-piece.piece (g.S.Shelf.files c.next_piece.new.shelf) next c.in_ok-put_step.ensures.whole
+          c.in_ok-piece.piece (g.S.Shelf.files c.store_full_piece.new.shelf) next
+          c.in_ok-put_step.ensures.whole
           c.in_ok-put_step.ensures.after c.in_ok-piece.ensures.whole;
       there = c.in_ok-piece.ensures.there;
       plannable = plannable_later c.loop-piece.steps.steps c.next_step.new.steps.steps
@@ -97,11 +100,12 @@ loop-piece-preserved g c =
       few = few_steps c.loop-piece.steps.steps c.next_step.new.steps.steps
           (seen_step c.in-Some.step) next c.loop-piece.session c.put_step.new.self c.put_step.ensures.plan
           c.in_ok-put_step.ensures.after c.loop-piece.invariant.few;
-      others = λ other n. c.next_piece.ensures.others other n ∙ c.loop-piece.invariant.others other n;
+      others = λ other n. c.store_full_piece.ensures.others other n ∙ c.loop-piece.invariant.others other n;
       later = one_later c.args.name.now (g.S.Shelf.store_faults c.args.shelf.now)
-          (g.S.Shelf.store_faults c.loop-piece.shelf) (g.S.Shelf.store_faults c.next_piece.new.shelf) _ _
-          c.loop-piece.invariant.later c.next_piece.ensures.cause;
-      loads = λ name. c.next_piece.ensures.loads name ∙ c.loop-piece.invariant.loads name;
+          (g.S.Shelf.store_faults c.loop-piece.shelf) (g.S.Shelf.store_faults c.store_full_piece.new.shelf)
+          _ _
+          c.loop-piece.invariant.later c.store_full_piece.ensures.cause;
+      loads = λ name. c.store_full_piece.ensures.loads name ∙ c.loop-piece.invariant.loads name;
     }
 
 pub returns-clause-part : goal.returns-clause-part

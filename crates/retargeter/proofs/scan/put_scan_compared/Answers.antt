@@ -9,32 +9,34 @@ returns-in_err-put_words-clause-part g c =
     at_refusal _ (adds_part_as (comparing_is c.len.result c.args.tdi.now.items c.args.tdo.now.items
     c.args.mask.now.items c.len.ensures) (adds_front _ c.in_err-put_words.ensures.part))
 
-pub returns-in_err-put_list-clause-part : goal.returns-in_err-put_list-clause-part
+pub returns-in_err-put_bits_part-clause-part : goal.returns-in_err-put_bits_part-clause-part
 unfolding words_text
-returns-in_err-put_list-clause-part g c =
+returns-in_err-put_bits_part-clause-part g c =
     at_refusal _ (adds_part_as (comparing_is c.len.result c.args.tdi.now.items
     c.args.tdo.now.items c.args.mask.now.items c.len.ensures)
-    (adds_then_part c.in_ok-put_words.ensures.whole (adds_front _ c.in_err-put_list.ensures.part)))
+    (adds_then_part c.in_ok-put_words.ensures.whole (adds_front _ c.in_err-put_bits_part.ensures.part)))
 
-pub returns-in_err-put_list-2-clause-part : goal.returns-in_err-put_list-2-clause-part
+pub returns-in_err-put_bits_part-2-clause-part : goal.returns-in_err-put_bits_part-2-clause-part
 unfolding words_text
-returns-in_err-put_list-2-clause-part g c =
+returns-in_err-put_bits_part-2-clause-part g c =
     at_refusal _ (adds_part_as (comparing_is c.len.result c.args.tdi.now.items c.args.tdo.now.items
     c.args.mask.now.items c.len.ensures) (adds_then_part c.in_ok-put_words.ensures.whole
-    (adds_then_part c.in_ok-put_list.ensures.whole (adds_front _ c.in_err-put_list-2.ensures.part))))
+    (adds_then_part c.in_ok-put_bits_part.ensures.whole (adds_front _
+    c.in_err-put_bits_part-2.ensures.part))))
 
-pub returns-in_err-put_list-3-clause-part : goal.returns-in_err-put_list-3-clause-part
+pub returns-in_err-put_bits_part-3-clause-part : goal.returns-in_err-put_bits_part-3-clause-part
 unfolding words_text
-returns-in_err-put_list-3-clause-part g c =
+returns-in_err-put_bits_part-3-clause-part g c =
     at_refusal _ (adds_part_as (comparing_is c.len.result c.args.tdi.now.items
     c.args.tdo.now.items c.args.mask.now.items c.len.ensures)
-    (adds_then_part c.in_ok-put_words.ensures.whole (adds_then_part c.in_ok-put_list.ensures.whole
-    (adds_then_part c.in_ok-put_list-2.ensures.whole (adds_front _ c.in_err-put_list-3.ensures.part)))))
+    (adds_then_part c.in_ok-put_words.ensures.whole (adds_then_part c.in_ok-put_bits_part.ensures.whole
+    (adds_then_part c.in_ok-put_bits_part-2.ensures.whole (adds_front _
+    c.in_err-put_bits_part-3.ensures.part)))))
 
 pub returns-in_err-write-clause-part : goal.returns-in_err-write-clause-part
 unfolding words_text
 returns-in_err-write-clause-part g c =
     at_refusal _ (adds_part_as (comparing_is c.len.result c.args.tdi.now.items c.args.tdo.now.items
     c.args.mask.now.items c.len.ensures) (adds_then_part c.in_ok-put_words.ensures.whole
-    (adds_then_part c.in_ok-put_list.ensures.whole (adds_then_part c.in_ok-put_list-2.ensures.whole
-    (adds_then_part c.in_ok-put_list-3.ensures.whole c.in_err-write.ensures.part)))))
+    (adds_then_part c.in_ok-put_bits_part.ensures.whole (adds_then_part c.in_ok-put_bits_part-2.ensures.whole
+    (adds_then_part c.in_ok-put_bits_part-3.ensures.whole c.in_err-write.ensures.part)))))

@@ -27,21 +27,23 @@ returns-in_err-put_scan_on-clause-part g c =
     at_refusal _ (adds_part_as (ap (λ p. text_of (SDR (scan_of c.args.net.now c.args.holds.now
     (route_of c.args.net.now c.args.holds.now) p))) same) c.in_err-put_scan_on.ensures.part)
 
-pub advance-requires : goal.advance-requires
-advance-requires g c =
+pub take_plan_writes-requires : goal.take_plan_writes-requires
+take_plan_writes-requires g c =
     plan_held c.args.net.now c.args.holds.now (seen_plan c.args.plan.now) (opening_scan c.args.net.now
     c.args.tree.now (seen_group c.args._group.now) c.args.holds.now c.requires.can
     (seen_plan c.args.plan.now) c.requires.plan)
 
 pub find-requires-clause-holds : goal.find-requires-clause-holds
 find-requires-clause-holds g c =
-    (subst (IsScannable c.args.net.now) (sym c.advance.ensures) (can_go_on c.args.net.now c.args.tree.now
+    (subst (IsScannable c.args.net.now) (sym c.take_plan_writes.ensures) (can_go_on c.args.net.now
+    c.args.tree.now
     (seen_group c.args._group.now) c.args.holds.now c.requires.can (seen_plan c.args.plan.now)
     c.requires.plan).listed).widths
 
 pub find-requires-clause-listed : goal.find-requires-clause-listed
 find-requires-clause-listed g c =
-    (subst (IsScannable c.args.net.now) (sym c.advance.ensures) (can_go_on c.args.net.now c.args.tree.now
+    (subst (IsScannable c.args.net.now) (sym c.take_plan_writes.ensures) (can_go_on c.args.net.now
+    c.args.tree.now
     (seen_group c.args._group.now) c.args.holds.now c.requires.can (seen_plan c.args.plan.now)
     c.requires.plan).listed).rows
 
@@ -54,6 +56,7 @@ returns-clause-whole g c =
 
 pub returns-clause-scannable : goal.returns-clause-scannable
 returns-clause-scannable g c =
-    subst (IsScannable c.args.net.now) (sym c.advance.ensures) (can_go_on c.args.net.now c.args.tree.now
+    subst (IsScannable c.args.net.now) (sym c.take_plan_writes.ensures) (can_go_on c.args.net.now
+    c.args.tree.now
     (seen_group c.args._group.now) c.args.holds.now c.requires.can (seen_plan c.args.plan.now)
     c.requires.plan).listed

@@ -10,7 +10,7 @@ loop-plan-preserved c =
       goes = plan_noted c.args.net.now c.args.holds.now c.args.plans.now c.args.scans c.args.places.now.items
           c.loop-plan.plan-index c.loop-plan.holds c.loop-plan.scan c.loop-plan.places.items
           c.loop-plan.invariant.goes c.plan-item.result c.loop-plan-test.true c.plan-item.is _ _
-          c.advance.new.holds c.note_plan_reads.new.places.items next one
-          c.advance.ensures c.in_ok-note_plan_reads.ensures.places;
+          c.take_plan_writes.new.holds c.note_plan_reads.new.places.items next one
+          c.take_plan_writes.ensures c.in_ok-note_plan_reads.ensures.places;
       room = c.note_plan_reads.ensures.room;
     }

@@ -8,8 +8,8 @@ use Rattle.scan_packer.proofs.Rooms.{all_there, chain_few, chain_short, zero_sha
 use Rattle.scan_packer.proofs.Routes.{is_route}
 use Rattle.scan_packer.proofs.held_path.pack_tdi_on.Goals as goal
 
-pub fill_same-requires : goal.fill_same-requires
-fill_same-requires c =
+pub copy_bits-requires : goal.copy_bits-requires
+copy_bits-requires c =
     let net = c.args.net.now in
     let route = c.args.path.now.route.items in
     omega (
@@ -55,7 +55,7 @@ put_writes-requires-clause-long c =
     let path = reverse c.as_slice.result.now in
     let route = is_route net holds c.args.path.now.route.items c.requires.held.path
     c.requires.well_formed c.as_slice.result.now same in
-    ap length (c.fill_same.ensures.items ∙ c.requires.held.bits
+    ap length (c.copy_bits.ensures.items ∙ c.requires.held.bits
     ∙ ap (λ r. chain (reverse r) holds) (sym same))
     ∙ length-chain_same path holds (zero_holds net)
     (c.requires.holds ∙ sym (zero_shape net path c.requires.well_formed route))

@@ -41,7 +41,7 @@ returns-in_err-piece-clause-part g c =
     c.loop-next.invariant.front text c.in_ok-add_command.ensures.text in
     at_refusal _
     (is_part files c.args.name.now old all later c.add_command.new.piece
-    (g.S.Shelf.files c.next_piece.new.shelf) front c.in_err-piece.ensures.part)
+    (g.S.Shelf.files c.store_full_piece.new.shelf) front c.in_err-piece.ensures.part)
 
 pub loop-next-preserved : goal.loop-next-preserved
 loop-next-preserved g c =
@@ -64,13 +64,13 @@ loop-next-preserved g c =
     record {
       playing = c.add_command.ensures.playing;
       front = gone files c.args.name.now old all later c.add_command.new.piece c.in_ok-piece.piece
-          (g.S.Shelf.files c.next_piece.new.shelf) front c.in_ok-piece.ensures.whole;
+          (g.S.Shelf.files c.store_full_piece.new.shelf) front c.in_ok-piece.ensures.whole;
       there = c.in_ok-piece.ensures.there;
-      others = λ other n. c.next_piece.ensures.others other n ∙ c.loop-next.invariant.others other n;
+      others = λ other n. c.store_full_piece.ensures.others other n ∙ c.loop-next.invariant.others other n;
       later = one_later c.args.name.now (g.S.Shelf.store_faults c.args.shelf.now)
-          (g.S.Shelf.store_faults c.loop-next.shelf) (g.S.Shelf.store_faults c.next_piece.new.shelf) _ _
-          c.loop-next.invariant.later c.next_piece.ensures.cause;
-      loads = λ name. c.next_piece.ensures.loads name ∙ c.loop-next.invariant.loads name;
+          (g.S.Shelf.store_faults c.loop-next.shelf) (g.S.Shelf.store_faults c.store_full_piece.new.shelf) _ _
+          c.loop-next.invariant.later c.store_full_piece.ensures.cause;
+      loads = λ name. c.store_full_piece.ensures.loads name ∙ c.loop-next.invariant.loads name;
     }
 
 pub returns-in_err-add-clause-part : goal.returns-in_err-add-clause-part

@@ -7,7 +7,7 @@ pub loop-reg-preserved : goal.loop-reg-preserved
 loop-reg-preserved c = λ r below.
     let net = c.args.net.now in
     let here : length (named net c.loop-reg.reg)
-    ≤ c.max-longest.result = omega (arith, c.max-longest.ensures, c.in_ok-named_len.ensures) in
+    ≤ c.max-longest.result = omega (arith, c.max-longest.ensures, c.in_ok-register_name_len.ensures) in
     ⊎_elim
     (λ same. subst (λ (k : ℕ). length (named net k) ≤ c.max-longest.result) same.1 here)
     (λ other. let before = c.loop-reg.invariant r (omega (arith, below, other.1)) in

@@ -13,5 +13,5 @@ returns-clause-value c =
       c.passed_len-n.ensures.value,
       c.passed_len-n.ensures.within,
       c.split_at.ensures.back_len,
-      c.rest_len.ensures.value,
+      c.short_run_len.ensures.value,
     )

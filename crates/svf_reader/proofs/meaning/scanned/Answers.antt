@@ -4,7 +4,7 @@ use Rattle.std.proofs.lemmas.Result.{err_from_is_err_and}
 use Rattle.svf_writer.specs.SeenCommands.{SeenCommand, seen_scan, seen_command}
 use Rattle.svf_reader.specs.declared.so_far.ReadSoFar.{ReadSoFar}
 use Rattle.svf_reader.specs.Meaning.{tdi_missing, with_length, with_leaving_clock, scan_clocks, scan_command}
-use Rattle.svf_reader.specs.Meaning.{within_clock_limit, scanned}
+use Rattle.svf_reader.specs.Meaning.{emit_within_clock_limit, scanned}
 use Rattle.svf_reader.specs.Answers.{scan_value}
 use Rattle.svf_reader.specs.Seen.{Leaves, seen_parts}
 use Rattle.svf_reader.proofs.Scans.{fails_on, scanned_err, scanned_ok_at}
@@ -41,15 +41,15 @@ returns c =
     let is = scanned_ok_at kept register len p (seen_scan c.in_ok-scan.scan) false
     (below len (omega (arith, c.from.ensures, c.if-len-from.false))) c.in_ok-scan.ensures there in
     let n = c.with_leaving_clock-clocks.ensures ∙ ap (with_leaving_clock kept) c.scan_clocks.ensures in
-    let read : within_clock_limit c.with_length.result false c.with_leaving_clock-clocks.result
-    (seen_command c.scan_command.result) ≡ within_clock_limit (with_length register len kept) false
+    let read : emit_within_clock_limit c.with_length.result false c.with_leaving_clock-clocks.result
+    (seen_command c.scan_command.result) ≡ emit_within_clock_limit (with_length register len kept) false
     (with_leaving_clock kept (scan_clocks register len))
     (scan_command register (seen_scan c.in_ok-scan.scan)) =
-    ap (λ (k : ReadSoFar). within_clock_limit k false c.with_leaving_clock-clocks.result
+    ap (λ (k : ReadSoFar). emit_within_clock_limit k false c.with_leaving_clock-clocks.result
     (seen_command c.scan_command.result)) c.with_length.ensures
-    ∙ ap (λ (m : ℕ). within_clock_limit (with_length register len kept) false m
+    ∙ ap (λ (m : ℕ). emit_within_clock_limit (with_length register len kept) false m
     (seen_command c.scan_command.result)) n
-    ∙ ap (λ (x : SeenCommand). within_clock_limit (with_length register len kept) false
+    ∙ ap (λ (x : SeenCommand). emit_within_clock_limit (with_length register len kept) false
     (with_leaving_clock kept (scan_clocks register len)) x) c.scan_command.ensures in
-    subst (λ r. Leaves c.within_clock_limit.new.out c.within_clock_limit.result r)
-    (read ∙ sym is) c.within_clock_limit.ensures
+    subst (λ r. Leaves c.emit_within_clock_limit.new.out c.emit_within_clock_limit.result r)
+    (read ∙ sym is) c.emit_within_clock_limit.ensures

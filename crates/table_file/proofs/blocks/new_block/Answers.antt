@@ -17,7 +17,7 @@ returns-then-branch-clause-value c =
     sym c.in_ok-path.ensures.value ∙ ap (option_map (λ p. texts p.names.items)) c.in-Some.is in
     let pieces : names ≡ split 46 path.text.now = rw c.in-Some.is at c.in_ok-path.ensures.text in
     let there : is_some (number_in c.args.paths.now path.text.now)
-    ≡ true = sym c.in_ok-enter.ensures.value ∙ c.if-branch.true in
+    ≡ true = sym c.in_ok-insert_path.ensures.value ∙ c.if-branch.true in
     λ ts listed. taken c.args.at ts c.args.paths.now names path.text.now
     (instrument (texts c.args.words.now)) listed said pieces there
 
@@ -29,7 +29,7 @@ returns-clause-value c =
     sym c.in_ok-path.ensures.value ∙ ap (option_map (λ p. texts p.names.items)) c.in-Some.is in
     let pieces : names ≡ split 46 path.text.now = rw c.in-Some.is at c.in_ok-path.ensures.text in
     let there : is_some (number_in c.args.paths.now path.text.now)
-    ≡ false = sym c.in_ok-enter.ensures.value ∙ c.if-branch.false in
+    ≡ false = sym c.in_ok-insert_path.ensures.value ∙ c.if-branch.false in
     λ ts listed. fresh c.args.at ts c.args.paths.now names _ path.text.now
     (instrument (texts c.args.words.now)) (seen_model c.empty_model.result) listed said pieces there
     (c.in_ok-names_of.ensures ∙ ap texts c.deref.ensures.value) c.empty_model.ensures

@@ -12,4 +12,5 @@ pub loop-read-preserved : goal.loop-read-preserved
 loop-read-preserved c = λ j low.
     any_word (λ a. has_bit c.args.self.now a.bit (64 * c.args.w + j)) c.args.reads.now
     c.loop-read.read-index _ (bit_at c.loop-read.word j == 1) _ _
-    c.loop-read-test.true (c.loop-read.invariant j low) (c.bit_word.ensures j low) (c.either-word.ensures j)
+    c.loop-read-test.true (c.loop-read.invariant j low) (c.bit_word.ensures j low)
+    (c.bits_of_either-word.ensures j)

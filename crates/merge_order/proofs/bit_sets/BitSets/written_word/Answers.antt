@@ -12,4 +12,5 @@ pub loop-write-preserved : goal.loop-write-preserved
 loop-write-preserved c = λ j low.
     any_word (λ a. has_bit c.args.self.now a.bit (64 * c.args.w + j)) c.args.writes.now
     c.loop-write.write-index _ (bit_at c.loop-write.word j == 1) _ _
-    c.loop-write-test.true (c.loop-write.invariant j low) (c.bit_word.ensures j low) (c.either-word.ensures j)
+    c.loop-write-test.true (c.loop-write.invariant j low) (c.bit_word.ensures j low)
+    (c.bits_of_either-word.ensures j)

@@ -40,10 +40,10 @@ loop-turn-preserved c =
       own = c.loop-turn.invariant.own;
       room = record {
         own = c.loop-turn.invariant.room.own;
-        other = omega (arith, c.if-not-meet.ensures.room, c.loop-turn.invariant.room.other);
+        other = omega (arith, c.if-not-push_met_register.ensures.room, c.loop-turn.invariant.room.other);
       };
-      few = omega (arith, c.if-not-meet.ensures.few, c.len-count.ensures);
+      few = omega (arith, c.if-not-push_met_register.ensures.few, c.len-count.ensures);
       leads = lead_on net h row c.loop-turn.at c.in-Some.before
-          c.loop-turn.self.other.items c.meet.new.into.items c.in-Some.ensures
-          (c.if-not-meet.ensures.met refl) c.loop-turn.invariant.leads;
+          c.loop-turn.self.other.items c.push_met_register.new.into.items c.in-Some.ensures
+          (c.if-not-push_met_register.ensures.met refl) c.loop-turn.invariant.leads;
     }

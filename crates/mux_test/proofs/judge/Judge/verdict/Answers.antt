@@ -21,8 +21,8 @@ returns-then-not-is_on_path-clause-verdict c =
     says_nothing h (route_of net h) (stuck_route net c.args.row h)
     (stuck_unmet net c.args.row h (c.if-not-is_on_path.ensures.unmet refl))
 
-pub verdict_met-requires-clause-path : goal.verdict_met-requires-clause-path
-verdict_met-requires-clause-path c =
+pub verdict_at_join-requires-clause-path : goal.verdict_at_join-requires-clause-path
+verdict_at_join-requires-clause-path c =
     let t = c.requires.testable in
     let (path, e) = has_path c.args.net.now c.args.tree.now t.well_formed t.describes t.lawful
     c.args.holds.now c.requires.scannable in

@@ -6,8 +6,8 @@ use Rattle.mux_test.proofs.Judged.{next_can}
 use Rattle.mux_test.proofs.Planning.{flushable_now}
 use Rattle.mux_test.proofs.test.MuxTest.next.Goals as goal
 
-pub go_on-requires-clause-after : goal.go_on-requires-clause-after
-go_on-requires-clause-after c =
+pub go_past_scan-requires-clause-after : goal.go_past_scan-requires-clause-after
+go_past_scan-requires-clause-after c =
     let net = c.self.inside.net.now in
     let scans = c.self.inside.scans.items in
     let i = c.self.inside.given in

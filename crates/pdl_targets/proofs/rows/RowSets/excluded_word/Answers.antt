@@ -7,4 +7,4 @@ pub loop-branch-preserved : goal.loop-branch-preserved
 loop-branch-preserved c j low =
     any_word (λ b. excluded_at c.args.self.now b (64 * c.args.w + j)) c.args.branches.now
     c.loop-branch.branch-index _ _ _ _ c.loop-branch-test.true
-    (c.loop-branch.invariant j low) (c.other_word.ensures j low) (c.either-word.ensures j)
+    (c.loop-branch.invariant j low) (c.other_rows_word.ensures j low) (c.bits_of_either-word.ensures j)

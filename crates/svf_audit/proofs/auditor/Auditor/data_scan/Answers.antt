@@ -10,8 +10,8 @@ use Rattle.svf_audit.proofs.Going.{kept_length}
 use Rattle.svf_audit.proofs.Scanning.{data_goes}
 use Rattle.svf_audit.proofs.auditor.Auditor.data_scan.Goals as goal
 
-pub reach-requires-clause-tdo : goal.reach-requires-clause-tdo
-reach-requires-clause-tdo c =
+pub scan_if_reached-requires-clause-tdo : goal.scan_if_reached-requires-clause-tdo
+scan_if_reached-requires-clause-tdo c =
     let a = c.args.self.now in
     subst (λ n. HasLength n c.args.scan.now.tdo) (sym (kept_length c.parts_after-kept.result (seen_last a.dr)
     (seen_scan c.args.scan.now) c.parts_after-kept.ensures.kept)) c.requires.fits.tdo
@@ -19,8 +19,8 @@ reach-requires-clause-tdo c =
 pub returns-clause-ok : goal.returns-clause-ok
 returns-clause-ok c =
     let a = c.args.self.now in
-    let z = c.reach.new.self in
-    let o = c.reach.ensures.others in
+    let z = c.scan_if_reached.new.self in
+    let o = c.scan_if_reached.ensures.others in
     let d = c.in_default.ensures in
     record {
       sound = record {

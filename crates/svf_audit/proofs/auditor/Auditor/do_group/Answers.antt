@@ -51,7 +51,7 @@ returns-clause-ok c =
     let g : SeenGroup = seen_group c.in-Some.group.now in
     let d = due a.registers.holds (work_left a.left) in
     let looks = kept_looks c.args.kept.now (seen_last a.dr) x c.requires.next in
-    let left = c.go_on.ensures.work ∙ ap (drop 1) c.due_group.ensures.work in
+    let left = c.finish_piece.ensures.work ∙ ap (drop 1) c.due_group.ensures.work in
     λ rs n.
     let s = state_of a rs in
     let next = ok (scanned net a.device.now s x a.registers.after (note s g) (drop 1 d)) in (

@@ -57,9 +57,9 @@ returns-clause-ok c =
     let len = sym (kept_length c.args.kept.now (seen_last a.dr) x c.requires.next) ∙ c.if-kept-len.false
     ∙ c.len.ensures ∙ chain_as a c.find.new.self x c.find.ensures.net c.find.ensures.holds in
     let rows = sym (rows_as a r x net holds aft) ∙ sym c.have_rows.ensures ∙ c.if-not-have_rows.false in
-    let left = work_left c.act.new.self.left in
+    let left = work_left c.do_scan_work.new.self.left in
     let upd : c.update.new.self.holds ≡ after a r x net holds =
-    c.update.ensures.holds ∙ ap (λ z. z.registers.after) c.act.ensures.others ∙ aft in
+    c.update.ensures.holds ∙ ap (λ z. z.registers.after) c.do_scan_work.ensures.others ∙ aft in
     λ rs n.
     let d = c.in_default.ensures.ok rs n in (
       d.0,

@@ -19,14 +19,14 @@ loop-i-init c =
 pub loop-i-preserved : goal.loop-i-preserved
 loop-i-preserved c =
     let old = c.args.self.now in
-    let new = c.turn.new.self in
+    let new = c.put_tdi_bit.new.self in
     let tdi = seen_tdi c.args.kept.now in
     let v = c.loop-i.invariant in
     let at : c.args.from + c.loop-i.i + 1 ≡ c.args.from + (c.loop-i.i + 1) = omega arith in
     record {
-      turned = subst (IsTurned new tdi) at c.turn.ensures.turned;
-      moves = ap (to_move new tdi) (sym at) ∙ c.turn.ensures.moves ∙ v.moves;
-      long = c.turn.ensures.length ∙ v.long;
-      others = c.turn.ensures.others ∙ ap
+      turned = subst (IsTurned new tdi) at c.put_tdi_bit.ensures.turned;
+      moves = ap (to_move new tdi) (sym at) ∙ c.put_tdi_bit.ensures.moves ∙ v.moves;
+      long = c.put_tdi_bit.ensures.length ∙ v.long;
+      others = c.put_tdi_bit.ensures.others ∙ ap
           (λ (z : Registers). record z { chain = new.chain; after = new.after; moved = new.moved }) v.others;
     }

@@ -1,5 +1,0 @@
-use Rattle.icl_frames.proofs.Derivations.{designs_are_written}
-use Rattle.icl_frames.proofs.laws.designs_are_written.Goals as goal
-
-pub returns : goal.returns
-returns c = designs_are_written

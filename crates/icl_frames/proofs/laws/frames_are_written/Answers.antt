@@ -1,5 +1,0 @@
-use Rattle.icl_frames.proofs.WrittenFrames.{frames_are_written}
-use Rattle.icl_frames.proofs.laws.frames_are_written.Goals as goal
-
-pub returns : goal.returns
-returns c = frames_are_written

@@ -1,6 +1,0 @@
-use Rattle.std.proofs.Common.{◌≡◌, replicate}
-use Rattle.std.specs.Prelude.{None}
-use Rattle.net_tree.proofs.place.unknown_places.Given as goal
-
-abbrev pub invariant-loop-item : goal.invariant-loop-item
-invariant-loop-item l = l.table.items ≡ replicate l._item None
