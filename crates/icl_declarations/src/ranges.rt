@@ -125,7 +125,8 @@ pub fn named_positions(
     b: Bounds,
     range: &Option<Range>,
 ) -> Result<Stretch, ElabFault>
-    ensures { Gives same result (named_positions (seen_table params.now) b (option_map seen_range range.now)) }
+    ensures { Gives same result (named_positions (seen_table params.now) b
+        (option_map seen_range range.now)) }
 {
     match range {
         Some(r) => {

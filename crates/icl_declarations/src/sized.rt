@@ -126,7 +126,8 @@ fn number_of_size(
 
 /// The bits of a base and its digits, if they suit it.
 fn open_digits(alloc: Global, text: &[u8]) -> Result<Option<Tern>, ElabFault>
-    ensures bits { IfOk result (λ bits. option_map tern_bits bits ≡ based_number_bits (normalized_digits text.now)) }
+    ensures bits { IfOk result (λ bits. option_map tern_bits bits
+        ≡ based_number_bits (normalized_digits text.now)) }
     ensures told { IfErr result (λ e. e ≡ ElabFault.OutOfMemory) }
 {
     let digits = normalized_digits(alloc, text)?;

@@ -116,7 +116,8 @@ fn finished_cell<'a>(
     passed: Passed<'a>,
 ) -> Result<Entered<'a>, ElabFault>
     ensures few { IfOk result (λ e. e.counts.bits ≡ passed.entry.counts.bits) }
-    ensures gives { Gives seen_entered result (finished_cell parent (seen_request request.now) (seen_table params)
+    ensures gives { Gives seen_entered result (finished_cell parent (seen_request request.now)
+        (seen_table params)
         (seen_passed (map seen_item request.now.block.now.items.items) passed.entry)) }
 {
     match cell_counts(parent, request.block, &passed) {

@@ -183,7 +183,8 @@ fn put_pos_end<K: Sink>(
     requires well_formed { IsNet net.now }
     requires there { IsInputOf net.now signal }
     ensures whole { OnOk result
-        (Adds (K.taken k.old) (K.taken k.new) (cond is_run_continued [] (drivers.run_end net.now more signal))) }
+        (Adds (K.taken k.old) (K.taken k.new) (cond is_run_continued []
+        (drivers.run_end net.now more signal))) }
     ensures part { OnErr result (AddsPart (K.taken k.old) (K.taken k.new)
         (cond is_run_continued [] (drivers.run_end net.now more signal))) }
     ensures cause { HasCause (K.faults k.old) (K.faults k.new) result StoreFault.Failed }
