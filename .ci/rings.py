@@ -80,15 +80,15 @@ def columns_of(order):
     return columns
 
 
-def arranged(below):
-    """The columns of a picture that shows all of what rings depend on, or all but one or two; and what it doesn't show."""
+def arranged(rings, below):
+    """The columns of a picture that isn't too wide and shows all of what rings depend on, or all but one or two; and what it doesn't show."""
     several = [(ring, it) for ring, its in below.items() for it in its if len(its) > 1]
     for hidden in itertools.chain.from_iterable(itertools.combinations(several, count) for count in range(3)):
         shown = {ring: [it for it in its if (ring, it) not in hidden] for ring, its in below.items()}
         # the one way in, from above all rings that nothing depends on
         shown[''] = [ring for ring in reversed(below) if not any(ring in its for its in shown.values())]
         for its in itertools.product(*(itertools.permutations(its[::-1]) for its in shown.values())):
-            if columns := columns_of(dict(zip(shown, its))):
+            if (columns := columns_of(dict(zip(shown, its)))) and sum(Layout(rings, columns).narrow()) < WIDTH:
                 return columns, hidden
     sys.exit('rings: too many of them cross for a picture')
 
@@ -107,8 +107,6 @@ class Layout:
         self.least = {ring: max(map(len, [ring, *its])) for ring, its in rings.items()}
         self.mine = {ring: [k for k, way in enumerate(columns) if ring in way] for ring in rings}
         self.above = {ring: {way[way.index(ring) - 1] for way in columns if ring in way[1:]} for ring in rings}
-        self.widths = self.found()
-
     def room(self, ring, widths):
         return sum(widths[k] for k in self.mine[ring]) - 3
 
@@ -134,8 +132,8 @@ class Layout:
                     break
                 yield self.cost(moved)
 
-    def found(self):
-        """Widths for which the picture is low, and then even: those found from as narrow as can be, with one column that has the rest."""
+    def narrow(self):
+        """Widths that are as small as can be."""
         narrow = [2] * (1 + max(map(max, self.mine.values())))
         for ring, its in self.mine.items():
             while self.room(ring, narrow) < self.least[ring]:
@@ -143,7 +141,11 @@ class Layout:
         for k in range(len(narrow)):
             while narrow[k] > 2 and all(self.room(ring, [it - (k == at) for at, it in enumerate(narrow)]) >= least for ring, least in self.least.items()):
                 narrow[k] -= 1
-        ends = []
+        return narrow
+
+    def found(self):
+        """Widths for which the picture is low, and then even: those found from as narrow as can be, with one column that has the rest."""
+        narrow, ends = self.narrow(), []
         for wide in range(len(narrow)):
             end = self.cost([it + max(0, WIDTH - 1 - sum(narrow)) * (k == wide) for k, it in enumerate(narrow)])
             while (better := min(self.moves(end[2]), default=end)) < end:
@@ -154,8 +156,9 @@ class Layout:
 
 def picture(rings, below):
     """The picture, and after it in words what it doesn't show."""
-    columns, hidden = arranged(below)
+    columns, hidden = arranged(rings, below)
     layout = Layout(rings, columns)
+    layout.widths = layout.found()
     tops, end = layout.tops(layout.widths)
     edges = [sum(layout.widths[:k]) for k in range(len(columns) + 1)]
     sides = [[0] * (edges[-1] + 1) for _ in range(end + 1)]

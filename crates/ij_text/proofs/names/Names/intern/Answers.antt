@@ -43,7 +43,7 @@ pub invariant_of-self-2 : goal.invariant_of-self-2
 invariant_of-self-2 c =
     let e = entered c in
     let value : c.from.result.items ≡ c.in_ok-key.key.items =
-    c.from.ensures.0 ∙ c.in_ok-copy.ensures.items ∙ c.as_slice-2.ensures ∙ sym e.1 in
+    c.from.ensures ∙ c.in_ok-copy.ensures.items ∙ c.as_slice-2.ensures ∙ sym e.1 in
     let long = ap length (names_are c) in
     let both = length-append c.args.self.now (c.args.name.now.items ∷ []) in (
       ap (λ es. map (λ (v : _). v.items) (values_of es)) e.2
