@@ -8,7 +8,7 @@ ghost use Rattle.design_maker.specs.Parts.{HasAdded, attribute, bound, bound_wid
 ghost use Rattle.design_maker.specs.Parts.{item, module_of, mux_row, port, seen_items, signal, sourced};
 ghost use Rattle.design_maker.specs.Parts.{wide_port, width_parameter};
 
-use crate::signals::{NOWHERE, names, one, signal, whole_width};
+use crate::signals::{NOWHERE, names_from_bytes, one, signal, whole_width};
 use icl_lexer::{
     Bind, Expr, Item, Module, MuxRow, OneOrMore, PortKind, Prop, Sig, SmallText, What,
 };
@@ -110,7 +110,7 @@ impl Items {
         ensures { OnOk result
             (HasAdded self.old self.new (interface name.now (map (λ word. word.now) ports.now) ∷ [])) }
     {
-        let ports = names(self.alloc, ports)?;
+        let ports = names_from_bytes(self.alloc, ports)?;
         self.add(name, What::Interface { ports })
     }
 

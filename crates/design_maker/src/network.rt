@@ -105,7 +105,7 @@ fn add_sibs(alloc: Global, i: u32, sibs: u32, items: &mut Items) -> Result<(), O
 
 /// The register of instrument i, which its innermost SIB selects.
 #[tactic(auto, unfolding(crate::specs::Parts::HasAdded))]
-fn add_wrap(
+fn add_wrap_instance(
     alloc: Global,
     i: u32,
     instrument: Instrument,
@@ -135,7 +135,7 @@ fn add_chain(
     ensures { OnOk result (HasAdded items.old items.new (chain_items i instrument)) }
 {
     add_sibs(alloc, i, instrument.sibs, items)?;
-    add_wrap(alloc, i, instrument, items)
+    add_wrap_instance(alloc, i, instrument, items)
 }
 
 /// The SIBs and the register of each instrument.

@@ -65,7 +65,10 @@ fn push_name(alloc: Global, names: &mut List<SmallText>, word: &[u8]) -> Result<
 }
 
 /// Names of these bytes.
-pub(crate) fn names(alloc: Global, words: &[&[u8]]) -> Result<List<SmallText>, OutOfMemory>
+pub(crate) fn names_from_bytes(
+    alloc: Global,
+    words: &[&[u8]],
+) -> Result<List<SmallText>, OutOfMemory>
     ensures { IfOk result (λ names. map bytes_of names.items ≡ map (λ word. word.now) words.now) }
 {
     let mut names = List::new(alloc);

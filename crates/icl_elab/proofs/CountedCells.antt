@@ -13,7 +13,7 @@ use Rattle.icl_declarations.specs.declared.ranges.Bounds.{Bounds}
 use Rattle.icl_declarations.specs.Parts.{is_part, port_that, is_data_in as is_data_in_kind}
 use Rattle.icl_declarations.specs.Parts.{is_data_out as is_data_out_kind, is_data_port as is_data_port_item}
 use Rattle.icl_declarations.specs.Parts.{is_register as is_register_item, is_mux as is_mux_item}
-use Rattle.icl_declarations.specs.Parts.{is_not_of_instrument as is_barred_item, parts_of}
+use Rattle.icl_declarations.specs.Parts.{is_barred_in_instrument as is_barred_item, parts_of}
 use Rattle.icl_frames.specs.FirstPass.{Frame}
 use Rattle.icl_frames.specs.Laws.{IsBelow, AreBelow, AreTree, IsFrame, AreFew, levels_from as levels_of}
 use Rattle.icl_frames.specs.Laws.{level_below, parents_of, is_instrument_frame, register_bits, bits_in}
@@ -21,7 +21,8 @@ use Rattle.icl_frames.specs.Laws.{muxes_in}
 use Rattle.icl_frames.proofs.Paired.{Paired}
 use Rattle.icl_references.specs.Names.{Member, members_from}
 use Rattle.icl_references.specs.Roles.{PartOf, CellOf, part_width}
-use Rattle.icl_elab.specs.WellFormed.{is_register, is_mux, is_data_port, is_not_of_instrument, is_instrument}
+use Rattle.icl_elab.specs.WellFormed.{is_register, is_mux, is_data_port, is_barred_in_instrument}
+use Rattle.icl_elab.specs.WellFormed.{is_instrument}
 use Rattle.icl_elab.specs.WellFormed.{levels_from, width_that, count_that, AreInTree, AreCellsFew}
 use Rattle.icl_elab.proofs.CellsOfFrames.{IsPartOfMember, IsCellOfFrame}
 use Rattle.std.proofs.Math.Bool.{and_assoc}
@@ -190,14 +191,14 @@ pub instrument_same : (f : Frame) (c : CellOf) → IsCellOfFrame f c → is_inst
 instrument_same f c i =
     let ports = any_cell f c (λ p. is_data_port p.role) is_data_port_item (λ m p j. j.kind.4)
     (data_part (λ kind. is_data_in_kind kind || is_data_out_kind kind)) i in
-    let barred = any_cell f c (λ p. is_not_of_instrument p.role) is_barred_item
+    let barred = any_cell f c (λ p. is_barred_in_instrument p.role) is_barred_item
     (λ m p j. j.kind.5) barred_part i in
     and_assoc (is_some c.parent) (list_any (λ p. is_data_port p.role) c.parts)
-    (not (list_any (λ p. is_not_of_instrument p.role) c.parts))
+    (not (list_any (λ p. is_barred_in_instrument p.role) c.parts))
     ∙ ap (λ (o : Option ℕ). is_some o && (list_any (λ p. is_data_port p.role) c.parts && not
-    (list_any (λ p. is_not_of_instrument p.role) c.parts))) i.parent
+    (list_any (λ p. is_barred_in_instrument p.role) c.parts))) i.parent
     ∙ ap (λ (b : Bool). is_some f.parent &&
-    (b && not (list_any (λ p. is_not_of_instrument p.role) c.parts))) ports
+    (b && not (list_any (λ p. is_barred_in_instrument p.role) c.parts))) ports
     ∙ ap (λ (b : Bool). is_some f.parent &&
     (list_any (λ item. is_data_port_item item.what) f.block.items && not b)) barred
 

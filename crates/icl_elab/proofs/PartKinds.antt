@@ -18,7 +18,7 @@ use Rattle.icl_declarations.specs.Faults.{◌>>=◌, refuse_if, each, over, Rows
 use Rattle.icl_declarations.specs.Parts.{is_source, is_signal, port_that, is_scan_in, is_scan_out}
 use Rattle.icl_declarations.specs.Parts.{is_data_in as is_data_in_kind, is_data_out as is_data_out_kind}
 use Rattle.icl_declarations.specs.Parts.{is_data_port as is_data_port_item, is_register as is_register_item}
-use Rattle.icl_declarations.specs.Parts.{is_mux as is_mux_item, is_not_of_instrument as is_barred_item}
+use Rattle.icl_declarations.specs.Parts.{is_mux as is_mux_item, is_barred_in_instrument as is_barred_item}
 use Rattle.icl_declarations.specs.Ranges.{width}
 use Rattle.icl_frames.specs.FirstPass.{Frame}
 use Rattle.icl_frames.proofs.Answering.{both, ok_is, over_all}
@@ -34,7 +34,7 @@ use Rattle.icl_elab.specs.FoundParts.{port_role, register_prop, register_found, 
 use Rattle.icl_elab.specs.FoundParts.{instance_found, port_number, selection, found_at, part_found}
 use Rattle.icl_elab.specs.Hierarchy.{with_bound}
 use Rattle.icl_elab.specs.WellFormed.{is_register, is_mux, is_data_in, is_data_out, is_data_port, is_thing}
-use Rattle.icl_elab.specs.WellFormed.{is_not_of_instrument}
+use Rattle.icl_elab.specs.WellFormed.{is_barred_in_instrument}
 use Rattle.std.proofs.Math.Bool.{or-false}
 
 -- what the kind of an item says of a role
@@ -45,7 +45,7 @@ IsOfKind what role =
     × (is_data_in role ≡ port_that is_data_in_kind what)
     × (is_data_out role ≡ port_that is_data_out_kind what)
     × (is_data_port role ≡ is_data_port_item what)
-    × (is_not_of_instrument role ≡ is_barred_item what)
+    × (is_barred_in_instrument role ≡ is_barred_item what)
     × (is_thing role ≡ true → is_signal what ≡ true)
 
 -- the role of a port of this kind, with a source or without
@@ -56,7 +56,8 @@ IsPortOf kind has role =
     × (is_data_in role ≡ is_data_in_kind kind)
     × (is_data_out role ≡ is_data_out_kind kind)
     × (is_data_port role ≡ (is_data_in_kind kind || is_data_out_kind kind))
-    × (is_not_of_instrument role ≡ ((is_scan_in kind || is_scan_out kind) || (is_data_out_kind kind && has)))
+    × (is_barred_in_instrument role ≡ ((is_scan_in kind || is_scan_out kind) || (is_data_out_kind kind &&
+    has)))
 
 swapped : (a b c : Bool) → (b || (a || c)) ≡ ((a || b) || c)
 swapped true true c = refl
@@ -69,7 +70,7 @@ barred_port true b = refl
 barred_port false b = refl
 
 port_of_kind : (kind : PortKind) (has : Bool) (role : Role) → IsPortOf kind has role
-    → (is_not_of_instrument role ≡ ((is_scan_in kind || is_scan_out kind) || false || false || false ||
+    → (is_barred_in_instrument role ≡ ((is_scan_in kind || is_scan_out kind) || false || false || false ||
     (is_data_out_kind kind && has)))
 port_of_kind kind has role h =
     h.5 ∙ barred_port (is_scan_in kind || is_scan_out kind) (is_data_out_kind kind && has)

@@ -46,20 +46,20 @@ is_thing (AnAliasOf refs) = true
 is_thing role = false
 
 -- what an instrument may not have: scan ports, registers, multiplexers, instances, and sources of its own
-abbrev pub is_not_of_instrument : Role → Bool
-is_not_of_instrument (ScanInput bound) = true
-is_not_of_instrument (ScanOutput source) = true
-is_not_of_instrument (AScanRegister scan capture reset) = true
-is_not_of_instrument (AScanMux select rows) = true
-is_not_of_instrument (AnInstance cell) = true
-is_not_of_instrument (DataOutput source) = is_some source
-is_not_of_instrument role = false
+abbrev pub is_barred_in_instrument : Role → Bool
+is_barred_in_instrument (ScanInput bound) = true
+is_barred_in_instrument (ScanOutput source) = true
+is_barred_in_instrument (AScanRegister scan capture reset) = true
+is_barred_in_instrument (AScanMux select rows) = true
+is_barred_in_instrument (AnInstance cell) = true
+is_barred_in_instrument (DataOutput source) = is_some source
+is_barred_in_instrument role = false
 
 -- an instance that data ports alone join to the network
 abbrev pub is_instrument : CellOf → Bool
 is_instrument c =
     is_some c.parent && list_any (λ p. is_data_port p.role) c.parts && not
-    (list_any (λ p. is_not_of_instrument p.role) c.parts)
+    (list_any (λ p. is_barred_in_instrument p.role) c.parts)
 
 -- ---- the tree
 

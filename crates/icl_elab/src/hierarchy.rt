@@ -225,7 +225,7 @@ fn add_cell_ports(
 }
 
 /// What the ports of a cell are, which are bound so.
-fn cell_ports(
+fn bound_cell_ports(
     alloc: Global,
     bindings: &Bindings,
     parts: &[Placed],
@@ -272,7 +272,7 @@ fn add_ports(
     for here in 0..tables.len() {
         let i = here as usize;
         let bindings = bound_in_parent(cells, nothing, tables.frame(here).parent, homes[i]);
-        let ports = cell_ports(alloc, bindings, &cells[i].parts)?;
+        let ports = bound_cell_ports(alloc, bindings, &cells[i].parts)?;
         all.push(CellPorts { ports })?;
     }
     Ok(())

@@ -15,7 +15,8 @@ use Rattle.icl_declarations.specs.declared.counts.Counts.{Counts}
 use Rattle.icl_frames.specs.FirstPass.{Frame, Request, parameters, with_binding, known_block, request, Passed}
 use Rattle.icl_frames.specs.FirstPass.{Added, item_additions, with_added, fold_item, nothing_passed}
 use Rattle.icl_frames.specs.FirstPass.{fold_items}
-use Rattle.icl_frames.specs.FirstPass.{cell_counts, Progress, Entered, enter_one, add_subtree, with_block}
+use Rattle.icl_frames.specs.FirstPass.{cell_counts, Progress, Entered, cell_of_request, add_subtree}
+use Rattle.icl_frames.specs.FirstPass.{with_block}
 use Rattle.icl_frames.specs.FirstPass.{nothing_entered, first_pass}
 use Rattle.icl_declarations.specs.Naming.{check_item_names}
 use Rattle.icl_declarations.specs.Counting.{count_part}
@@ -143,8 +144,8 @@ pub record IsEntered (blocks : List SeenModule) (parent : Option ℕ) (r : Reque
   pub wanted : Paired (IsRequested blocks e.frame.params) (children_of r.block.items) e.requests
 
 entered : (blocks : List SeenModule) (above : List (List ℕ)) (parent : Option ℕ) (c : Counts) (r : Request)
-    (e : Entered) → enter_one blocks above parent c r ≡ Ok e → IsEntered blocks parent r e
-unfolding enter_one
+    (e : Entered) → cell_of_request blocks above parent c r ≡ Ok e → IsEntered blocks parent r e
+unfolding cell_of_request
 entered blocks above parent c r e h =
     let a = both (parameters r.given r.block) _ e h in
     let b = both (fold_items blocks above a.first c r.block) _ e a.then' in
@@ -222,7 +223,7 @@ module _ (blocks : List SeenModule) where
   instance_added zero above parent s t r h = absurd cc
   instance_added (suc levels) above parent s t r h =
       let a = both (refuse_if (nat_le 8192 (length s.frames)) (Limit Cells 8192)) _ t h in
-      let b = both (enter_one blocks (r.block.name ∷ above) parent s.counts r) _ t a.then' in
+      let b = both (cell_of_request blocks (r.block.name ∷ above) parent s.counts r) _ t a.then' in
       let e = entered blocks (r.block.name ∷ above) parent s.counts r b.first b.is in
       let s' : Progress = record { frames = s.frames ++ b.first.frame ∷ []; counts = b.first.counts } in
       let n : length s'.frames ≡ suc (length s.frames) =

@@ -15,7 +15,8 @@ use Rattle.icl_declarations.specs.Parts.{port_that, is_data_in, is_data_out, is_
 use Rattle.icl_declarations.specs.Parts.{block_named, parts_of}
 use Rattle.icl_frames.specs.FirstPass.{Frame, Request, parameters, known_block, Passed, fold_items}
 use Rattle.icl_frames.specs.FirstPass.{cell_counts}
-use Rattle.icl_frames.specs.FirstPass.{Progress, Entered, enter_one, add_subtree, with_block, nothing_entered}
+use Rattle.icl_frames.specs.FirstPass.{Progress, Entered, cell_of_request, add_subtree, with_block}
+use Rattle.icl_frames.specs.FirstPass.{nothing_entered}
 use Rattle.icl_frames.specs.FirstPass.{first_pass}
 use Rattle.icl_declarations.specs.Counting.{ports_over, has_wide_port, count_instrument}
 use Rattle.icl_frames.specs.Laws.{is_instrument_frame, IsFrame, bits_in, muxes_in, AreFew, FramesAreDeclared}
@@ -99,8 +100,8 @@ pub record IsOneCell (c : Counts) (e : Entered) : Type 0 where
   pub few_instruments : c.instruments ≤ 256 → e.counts.instruments ≤ 256
 
 one_cell : (blocks : List SeenModule) (above : List (List ℕ)) (parent : Option ℕ) (c : Counts) (r : Request)
-    (e : Entered) → enter_one blocks above parent c r ≡ Ok e → IsOneCell c e
-unfolding enter_one
+    (e : Entered) → cell_of_request blocks above parent c r ≡ Ok e → IsOneCell c e
+unfolding cell_of_request
 one_cell blocks above parent c r e h =
     let a = both (parameters r.given r.block) _ e h in
     let b = both (fold_items blocks above a.first c r.block) _ e a.then' in
@@ -162,7 +163,7 @@ unfolding add_subtree
 held zero blocks above parent s t r p h = absurd cc
 held (suc levels) blocks above parent s t r p h =
     let a = both (refuse_if (nat_le 8192 (length s.frames)) (Limit Cells 8192)) _ t h in
-    let b = both (enter_one blocks (r.block.name ∷ above) parent s.counts r) _ t a.then' in
+    let b = both (cell_of_request blocks (r.block.name ∷ above) parent s.counts r) _ t a.then' in
     let room = leb-false 8192 (length s.frames)
     (not_refused (nat_le 8192 (length s.frames)) (Limit Cells 8192) a.first a.is) in
     let o = one_cell blocks (r.block.name ∷ above) parent s.counts r b.first b.is in

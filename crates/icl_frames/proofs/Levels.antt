@@ -5,7 +5,7 @@ use Rattle.std.specs.Prelude.{nat_le}
 use Rattle.ij_text.specs.declared.Which.TheVariants.{Hierarchy, Cells}
 use Rattle.icl_lexer.specs.Values.{SeenModule}
 use Rattle.icl_declarations.specs.Faults.{Answer, Fault, Fails, ◌>>=◌, refuse_if, over, Limit}
-use Rattle.icl_frames.specs.FirstPass.{Request, Progress, Entered, enter_one, add_subtree}
+use Rattle.icl_frames.specs.FirstPass.{Request, Progress, Entered, cell_of_request, add_subtree}
 use Rattle.icl_frames.specs.SeenFrames.{Stepped, add_cell}
 
 pub no_level : (levels : ℕ) (blocks : List SeenModule) (above : List (List ℕ)) (parent : Option ℕ)
@@ -41,11 +41,11 @@ one_level levels blocks above parent s r = by_room (nat_le 8192 (length s.frames
     by_entered (Err e) = refl
 
     by_room : (t : Bool) → (refuse_if t (Limit Cells 8192)
-        >>= λ room. enter_one blocks (r.block.name ∷ above) parent s.counts r >>= next)
+        >>= λ room. cell_of_request blocks (r.block.name ∷ above) parent s.counts r >>= next)
         ≡ below levels blocks (r.block.name ∷ above) (length s.frames) (refuse_if t (Limit Cells 8192)
-        >>= λ room. enter_one blocks (r.block.name ∷ above) parent s.counts r >>= step)
+        >>= λ room. cell_of_request blocks (r.block.name ∷ above) parent s.counts r >>= step)
     by_room true = refl
-    by_room false = by_entered (enter_one blocks (r.block.name ∷ above) parent s.counts r)
+    by_room false = by_entered (cell_of_request blocks (r.block.name ∷ above) parent s.counts r)
 
 pub a_level : (levels : ℕ) (blocks : List SeenModule) (above inside : List (List ℕ)) (parent : Option ℕ)
     (s : Progress) (r : Request) → 0 < levels → inside ≡ r.block.name ∷ above

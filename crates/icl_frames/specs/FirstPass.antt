@@ -145,8 +145,9 @@ pub record Entered : Type 0 where
   pub counts : Counts
 
 -- one cell, which is in these modules, its own among them
-unfoldable pub enter_one : List SeenModule → List (List ℕ) → Option ℕ → Counts → Request → Answer Entered
-enter_one blocks above parent c r = do
+unfoldable pub cell_of_request : List SeenModule → List (List ℕ) → Option ℕ → Counts → Request → Answer
+    Entered
+cell_of_request blocks above parent c r = do
   ps ← parameters r.given r.block
   s ← fold_items blocks above ps c r.block
   counts ← cell_counts parent r.block s
@@ -168,7 +169,7 @@ unfoldable pub add_subtree : ℕ → List SeenModule → List (List ℕ) → Opt
 add_subtree zero blocks above parent s r = Err (Limit Hierarchy 64)
 add_subtree (suc levels) blocks above parent s r = do
   room ← refuse_if (nat_le 8192 (length s.frames)) (Limit Cells 8192)
-  e ← enter_one blocks (r.block.name ∷ above) parent s.counts r
+  e ← cell_of_request blocks (r.block.name ∷ above) parent s.counts r
   over (add_subtree levels blocks (r.block.name ∷ above) (Some (length s.frames)))
       (record { frames = s.frames ++ e.frame ∷ []; counts = e.counts }) e.requests
 

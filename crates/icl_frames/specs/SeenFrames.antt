@@ -16,7 +16,7 @@ use Rattle.icl_frames.specs.declared.cells.Entered.{Entered as EnteredAt}
 use Rattle.icl_frames.specs.declared.cells.Progress.{Progress as ProgressAt}
 use Rattle.icl_frames.specs.declared.cells.Stepped.{Stepped as SteppedAt}
 use Rattle.icl_frames.specs.FirstPass.{Request, Passed, Added, Frame, Entered, Progress, cell_counts}
-use Rattle.icl_frames.specs.FirstPass.{enter_one}
+use Rattle.icl_frames.specs.FirstPass.{cell_of_request}
 
 abbrev pub seen_request : RequestAt → Request
 seen_request r = record { name = r.name.now; block = seen_module r.block.now; given = seen_table r.given }
@@ -60,7 +60,7 @@ seen_progress s = record { frames = map seen_frame s.frames.items; counts = s.co
 
 -- ---- one cell more
 
--- what `enter_one` does after the items of a cell
+-- what `cell_of_request` does after the items of a cell
 abbrev pub finished_cell : Option ℕ → Request → Params → Passed → Answer Entered
 finished_cell parent r ps s =
     cell_counts parent r.block s >>= λ counts. Ok (record {
@@ -78,7 +78,7 @@ finished_cell parent r ps s =
 -- the next cell, if there is room for one
 abbrev pub entered_next : List SeenModule → List (List ℕ) → Option ℕ → Progress → Request → Answer Entered
 entered_next blocks above parent s r = refuse_if (nat_le 8192 (length s.frames)) (Limit Cells 8192)
-    >>= λ room. enter_one blocks above parent s.counts r
+    >>= λ room. cell_of_request blocks above parent s.counts r
 
 -- the cells with one more, and the instances that it wants
 pub record Stepped : Type 0 where
@@ -92,7 +92,7 @@ seen_stepped w = record { progress = seen_progress w.progress; requests = map se
 unfoldable pub add_cell : List SeenModule → List (List ℕ) → Option ℕ → Progress → Request → Answer Stepped
 add_cell blocks above parent s r = do
   room ← refuse_if (nat_le 8192 (length s.frames)) (Limit Cells 8192)
-  e ← enter_one blocks above parent s.counts r
+  e ← cell_of_request blocks above parent s.counts r
   Ok (record {
     progress = record { frames = s.frames ++ e.frame ∷ []; counts = e.counts };
     requests = e.requests;

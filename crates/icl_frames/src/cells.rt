@@ -7,7 +7,8 @@ ghost use Rattle.icl_declarations.specs.Faults.{Gives, refuse_if, over, Limit};
 ghost use Rattle.icl_declarations.specs.Scopes.{entry_of};
 ghost use Rattle.ij_text.specs.declared.Which.TheVariants.{Cells};
 ghost use Rattle.icl_declarations.specs.Tables.{seen_table};
-ghost use Rattle.icl_frames.specs.FirstPass.{with_block, parameters, fold_items, cell_counts, enter_one};
+ghost use Rattle.icl_frames.specs.FirstPass.{with_block, parameters, fold_items, cell_counts};
+ghost use Rattle.icl_frames.specs.FirstPass.{cell_of_request};
 ghost use Rattle.icl_frames.specs.FirstPass.{add_subtree};
 ghost use Rattle.icl_frames.specs.FirstPass.{first_pass};
 ghost use Rattle.icl_frames.specs.SeenFrames.{names_of, seen_passed, seen_request, seen_frame, seen_entered};
@@ -144,8 +145,8 @@ fn finished_cell<'a>(
 }
 
 /// The cell of an instance, which is in these modules, its own among them.
-#[tactic(auto, unfolding(crate::specs::FirstPass::enter_one))]
-fn enter_one<'a>(
+#[tactic(auto, unfolding(crate::specs::FirstPass::cell_of_request))]
+fn cell_of_request<'a>(
     alloc: Global,
     modules: &'a [Module],
     above: &[&'a Module],
@@ -155,7 +156,7 @@ fn enter_one<'a>(
 ) -> Result<Entered<'a>, ElabFault>
     requires { counts.bits ≤ 4096 }
     ensures few { IfOk result (λ e. e.counts.bits ≤ 4096) }
-    ensures gives { Gives seen_entered result (enter_one (map seen_module modules.now)
+    ensures gives { Gives seen_entered result (cell_of_request (map seen_module modules.now)
         (names_of above.now) parent counts (seen_request request.now)) }
 {
     let block = request.block;
@@ -257,7 +258,7 @@ fn entered_next<'a>(
         (names_of above.now) parent (seen_progress state.now) (seen_request request.now)) }
 {
     let cell = next_cell(state.frames.as_slice())?;
-    let entered = enter_one(alloc, modules, above, parent, state.counts, request)?;
+    let entered = cell_of_request(alloc, modules, above, parent, state.counts, request)?;
     Ok((cell, entered))
 }
 

@@ -119,7 +119,7 @@ fn cell_tables<'a>(
 }
 
 /// This many tables without names.
-fn no_children(alloc: Global, count: usize) -> Result<Vec<Scope>, OutOfMemory>
+fn empty_child_tables(alloc: Global, count: usize) -> Result<Vec<Scope>, OutOfMemory>
     ensures long { IfOk result (λ all. length all.items ≡ count) }
     ensures none { IfOk result (λ all. AreEmpty all.items) }
 {
@@ -171,7 +171,7 @@ fn children_of(alloc: Global, frames: &[Frame]) -> Result<Vec<Scope>, OutOfMemor
     ensures long { IfOk result (λ all. length all.items ≡ length frames.now) }
     ensures all { IfOk result (λ all. AreAllChildren (map seen_frame frames.now) all.items) }
 {
-    let mut all = no_children(alloc, frames.len())?;
+    let mut all = empty_child_tables(alloc, frames.len())?;
     let mut number = 0;
     for frame in frames {
         add_frame(alloc, &mut all, frame, number)?;

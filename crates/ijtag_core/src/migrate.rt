@@ -19,7 +19,7 @@ use bench_file::Table;
 use ij_bits::{List, OutOfMemory};
 use ij_io::{Shelf, Sink, SureSink};
 use ijtag_stages::{StageFault, read_tables};
-use ijtag_work::{MigrateWords, Stop, Verdict, load_all, write_file};
+use ijtag_work::{MigrateWords, Stop, Verdict, load_files, write_file};
 use std::alloc::Global;
 use table_writer::put_tables;
 
@@ -72,7 +72,7 @@ pub(crate) fn migrate<'a, S: Shelf, O: Sink>(
     ensures stores { OnlyTheseRise (words.now.written.now ∷ [])
         (S.store_faults shelf.old) (S.store_faults shelf.new) }
 {
-    let texts = load_all(alloc, &words.loads(), shelf)?;
+    let texts = load_files(alloc, &words.loads(), shelf)?;
     let tables = accept(alloc, &texts)?;
     let text = make_text(alloc, &tables)?;
     match write_file(words.written, text.bytes(), shelf) {

@@ -12,8 +12,9 @@ use Rattle.ij_text.specs.Options.{both}
 use Rattle.ij_text.specs.declared.Place.{Place}
 use Rattle.net_graph.specs.declared.device.Device.{Device}
 use Rattle.net_graph.specs.Devices.{IsDevice, IsIdentity, IsOpcode}
-use Rattle.bench_file.specs.Device.{Link, Said, and_then, device, device_with, from_head}
-use Rattle.bench_file.specs.Device.{from_idcode, from_ir, from_link, idcode_line, idcode_words, in_range}
+use Rattle.bench_file.specs.Device.{Link, Said, and_then, device, device_with, read_from_head_line}
+use Rattle.bench_file.specs.Device.{read_from_idcode_line, read_from_ir_line, read_from_link_line}
+use Rattle.bench_file.specs.Device.{idcode_line, idcode_words, in_range}
 use Rattle.bench_file.specs.Device.{ir_words, is_head, is_idcode, is_identity, link_line, link_said}
 use Rattle.bench_file.specs.Device.{link_words, needed, nothing_more, opcode_in}
 use Rattle.bench_file.specs.declared.fault.DeviceFault.TheVariants.{DevSyntax, OpcodeOnes, OpcodeTwice}
@@ -185,7 +186,7 @@ module _ (ir : ℕ) (range : Range ir) where
   more_ok d is (l ∷ ls) = tt
 
   from_link_ok : (end : Place) (idcode : Option (ℕ × ℕ)) → IsCode ir idcode → (ls : List Line)
-      → IfOk (from_link end ir idcode ls) HasCodes
+      → IfOk (read_from_link_line end ir idcode ls) HasCodes
   from_link_ok end idcode code [] = tt
   from_link_ok end idcode code (l ∷ ls) = then_ok HasCodes HasCodes (link_line ir idcode l) _
       (link_ok idcode code l) (λ d is. more_ok d is ls)
@@ -197,18 +198,18 @@ module _ (ir : ℕ) (range : Range ir) where
       then_ok (λ n. (n ≡ i.1) × IsOpcode ir i.1) _ (opcode_in ir l.at i.1) _
       (opcode_ok ir l.at i.1) (λ n is. (value, is.1)))
 
-  from_idcode_ok : (end : Place) (ls : List Line) → IfOk (from_idcode end ir ls) HasCodes
+  from_idcode_ok : (end : Place) (ls : List Line) → IfOk (read_from_idcode_line end ir ls) HasCodes
   from_idcode_ok end [] = tt
   from_idcode_ok end (l ∷ ls) = by_test (is_idcode l.words)
     where
       by_test : (b : Bool)
-          → IfOk (cond b (and_then (idcode_line ir l) (λ idcode. from_link end ir (Some idcode) ls))
-          (from_link end ir None (l ∷ ls))) HasCodes
+          → IfOk (cond b (and_then (idcode_line ir l) (λ idcode. read_from_link_line end ir (Some idcode) ls))
+          (read_from_link_line end ir None (l ∷ ls))) HasCodes
       by_test true = then_ok _ HasCodes (idcode_line ir l) _ (idcode_ok l)
           (λ idcode code. from_link_ok end (Some idcode) code ls)
       by_test false = from_link_ok end None tt (l ∷ ls)
 
-from_ir_ok : (end : Place) (ls : List Line) → IfOk (from_ir end ls) HasCodes
+from_ir_ok : (end : Place) (ls : List Line) → IfOk (read_from_ir_line end ls) HasCodes
 from_ir_ok end [] = tt
 from_ir_ok end (l ∷ ls) = then_ok Range HasCodes (needed l.at (ir_words l.words)) _
     (needed_ok Range l.at (ir_words l.words) (ir_some l.words)) (λ ir range. from_idcode_ok ir range end ls)
@@ -218,11 +219,11 @@ unfolding device
 device_ok text = from_head_ok (end_of text) (lines_of text)
   where
     by_head : (end at : Place) (ls : List Line) (b : Bool)
-        → IfOk (cond b (from_ir end ls) (Err (DevSyntax at))) HasCodes
+        → IfOk (cond b (read_from_ir_line end ls) (Err (DevSyntax at))) HasCodes
     by_head end at ls true = from_ir_ok end ls
     by_head end at ls false = tt
 
-    from_head_ok : (end : Place) (ls : List Line) → IfOk (from_head end ls) HasCodes
+    from_head_ok : (end : Place) (ls : List Line) → IfOk (read_from_head_line end ls) HasCodes
     from_head_ok end [] = tt
     from_head_ok end (l ∷ ls) = by_head end l.at ls (is_head l.words)
 

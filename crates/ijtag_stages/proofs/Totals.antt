@@ -3,7 +3,8 @@ use Rattle.std.specs.Prelude.{Option, None, Result, Ok, Err, IsSome, IfSome}
 use Rattle.std.proofs.Common.{◌≡◌, ◌∙◌, ◌≤◌, ◌-◌, ◌^◌, ◌==◌, nat_lt, nat_le, subst, refl, sym, ap, ℕ, suc}
 use Rattle.std.proofs.Common.{Bool, true, false, cond, Some, List, [], ◌∷◌, inl, inr, length, take, drop}
 use Rattle.bench_file.specs.Device.{Link, Said, and_then as then_said, device}
-use Rattle.bench_file.specs.Device.{from_head as device_from_head, from_idcode, from_ir, from_link}
+use Rattle.bench_file.specs.Device.{read_from_head_line as device_from_head, read_from_idcode_line}
+use Rattle.bench_file.specs.Device.{read_from_ir_line, read_from_link_line}
 use Rattle.bench_file.specs.Device.{idcode_line, idcode_words, ir_words, is_head, is_idcode, is_identity}
 use Rattle.bench_file.specs.Device.{device_with, link_line, link_said, link_words, needed, nothing_more}
 use Rattle.bench_file.specs.Device.{opcode_in}
@@ -182,7 +183,7 @@ more_told d [] = tt
 more_told d (l ∷ ls) = refl
 
 from_link_told : (end : Place) (ir : ℕ) (idcode : Option (ℕ × ℕ)) (ls : List Line)
-    → IsToldSaid (from_link end ir idcode ls)
+    → IsToldSaid (read_from_link_line end ir idcode ls)
 from_link_told end ir idcode [] = refl
 from_link_told end ir idcode (l ∷ ls) =
     then_told (link_line ir idcode l) _ (link_told ir idcode l) (λ d. more_told d ls)
@@ -192,14 +193,14 @@ idcode_told ir l =
     then_told (needed l.at (idcode_words l.words)) _ (needed_told l.at (idcode_words l.words)) (λ idcode.
     then_told (opcode_in ir l.at idcode.1) _ (opcode_told ir l.at idcode.1) (λ opcode. tt))
 
-from_idcode_told : (end : Place) (ir : ℕ) (ls : List Line) → IsToldSaid (from_idcode end ir ls)
+from_idcode_told : (end : Place) (ir : ℕ) (ls : List Line) → IsToldSaid (read_from_idcode_line end ir ls)
 from_idcode_told end ir [] = refl
 from_idcode_told end ir (l ∷ ls) =
     cond_told device_fault (is_idcode l.words) _ _
     (then_told (idcode_line ir l) _ (idcode_told ir l) (λ idcode. from_link_told end ir (Some idcode) ls))
     (from_link_told end ir None (l ∷ ls))
 
-from_ir_told : (end : Place) (ls : List Line) → IsToldSaid (from_ir end ls)
+from_ir_told : (end : Place) (ls : List Line) → IsToldSaid (read_from_ir_line end ls)
 from_ir_told end [] = refl
 from_ir_told end (l ∷ ls) = then_told (needed l.at (ir_words l.words)) _
     (needed_told l.at (ir_words l.words)) (λ ir. from_idcode_told end ir ls)

@@ -11,7 +11,7 @@ ghost use Rattle.ijtag_work.specs.Using.{AreShortTexts, needs_in, needs_of, seen
 ghost use Rattle.ijtag_work.specs.Words.{seen_audit, seen_direct, seen_network, seen_play, seen_procedure};
 
 use crate::accepted::Texts;
-use crate::load::{Load, load_all};
+use crate::load::{Load, load_files};
 use crate::stop::Stop;
 use ij_io::Shelf;
 use std::alloc::Global;
@@ -59,7 +59,7 @@ impl<'a> Inputs<'a> for NetworkWords<'a> {
 
     fn load<S: Shelf>(&self, alloc: Global, shelf: &mut S) -> Result<Vec<Vec<u8>>, Stop<'a>> {
         let loads = [Load::Source(self.icl), Load::Source(self.device)];
-        load_all(alloc, &loads, shelf)
+        load_files(alloc, &loads, shelf)
     }
 
     fn texts<'t>(&'t self, loaded: &'t [Vec<u8>]) -> Texts<'t> {
@@ -98,7 +98,7 @@ impl<'a> Inputs<'a> for ProcedureWords<'a> {
             Load::Source(self.pdl),
             Load::Source(self.network.device),
         ];
-        load_all(alloc, &loads, shelf)
+        load_files(alloc, &loads, shelf)
     }
 
     fn texts<'t>(&'t self, loaded: &'t [Vec<u8>]) -> Texts<'t> {
@@ -136,7 +136,7 @@ impl<'a> Inputs<'a> for DirectWords<'a> {
             Load::Source(self.procedure.network.device),
             Load::Source(self.tables),
         ];
-        load_all(alloc, &loads, shelf)
+        load_files(alloc, &loads, shelf)
     }
 
     fn texts<'t>(&'t self, loaded: &'t [Vec<u8>]) -> Texts<'t> {
@@ -176,7 +176,7 @@ impl<'a> Inputs<'a> for PlayWords<'a> {
             Load::Source(self.network.device),
             Load::Source(self.tables),
         ];
-        load_all(alloc, &loads, shelf)
+        load_files(alloc, &loads, shelf)
     }
 
     fn texts<'t>(&'t self, loaded: &'t [Vec<u8>]) -> Texts<'t> {
@@ -214,7 +214,7 @@ impl<'a> Inputs<'a> for AuditWords<'a> {
             Load::Source(self.procedure.pdl),
             Load::Source(self.procedure.network.device),
         ];
-        load_all(alloc, &loads, shelf)
+        load_files(alloc, &loads, shelf)
     }
 
     fn texts<'t>(&'t self, loaded: &'t [Vec<u8>]) -> Texts<'t> {

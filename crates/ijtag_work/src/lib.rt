@@ -26,7 +26,7 @@ pub use decided::{texts_are_decided, works_are_decided, works_are_total};
 pub use follow::steps_again;
 use headline::{planned_scripts_law, planned_steps_law};
 pub use inputs::{AuditWords, DirectWords, Inputs, NetworkWords, PlayWords, ProcedureWords};
-pub use load::{Load, load_all};
+pub use load::{Load, load_files};
 pub use names::MadeName;
 use net_bench::events_are_counted;
 pub use number::read_number;

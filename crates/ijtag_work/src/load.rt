@@ -73,7 +73,7 @@ fn load_one<'a, S: Shelf>(
 
 /// Loads these files in their order, each once, and stops at the first that can't be loaded or is too long.
 /// No file changes, and the counts of no other names.
-pub fn load_all<'a, S: Shelf>(
+pub fn load_files<'a, S: Shelf>(
     alloc: Global,
     loads: &[Load<'a>],
     shelf: &mut S,

@@ -55,7 +55,7 @@ use Rattle.svf_audit.proofs.Working.{IsWork, empty_is, steps_work}
 use Rattle.least_clocks.specs.Inside.{bits_within_rows}
 use Rattle.least_clocks.specs.Law.{NoneTakesFewer}
 use Rattle.least_clocks.specs.Least.{clocks_to_idle, clocks_to_link, changed, first_path, first_scan, read}
-use Rattle.least_clocks.specs.Least.{is_on_first, is_passed, least_from, own_scan, scan_clocks}
+use Rattle.least_clocks.specs.Least.{is_on_first, is_passed, least_from, own_scan, round_scan_clocks}
 use Rattle.least_clocks.proofs.Moving.{state, same_clocks, takes, leave, link, linked_least, unlinked_most}
 use Rattle.least_clocks.proofs.Moving.{scanned_once, due_clocks, due_work, due_first, cycles_clocks}
 use Rattle.least_clocks.proofs.Moving.{cycles_work}
@@ -359,13 +359,13 @@ module _ (net : Net) (form : Items) (device : Device) (d : Describes net form) w
       -- the scan has all clocks that the round's take
       scan_short : (g : SeenGroup) → list_all (has_value after) g.writes ≡ true
           → does_reads g path a.holds (played a.dr x).expects ≡ true → (t : Bool) → f ≡ t
-          → scan_clocks net form f a.holds g ≤ x.len + 5
+          → round_scan_clocks net form f a.holds g ≤ x.len + 5
       scan_short g writes reads true z =
-          let here = ap (λ t. scan_clocks net form t a.holds g) z in
+          let here = ap (λ t. round_scan_clocks net form t a.holds g) z in
           let none = ap (λ t. cond t 0 (own_scan net form a.holds g)) (all_on_first g writes reads z) in
           omega (arith, here, none, first_long z)
       scan_short g writes reads false z =
-          let here = ap (λ t. scan_clocks net form t a.holds g) z in
+          let here = ap (λ t. round_scan_clocks net form t a.holds g) z in
           omega (arith, here, asked_short g writes reads (active net a.holds) refl)
 
       group_steps : (b : AuditState) (next : SeenGroup × List Work)

@@ -14,7 +14,7 @@ use Rattle.least_clocks.specs.declared.count.Count.{Count}
 use Rattle.least_clocks.specs.Counting.{state_of}
 use Rattle.least_clocks.specs.Inside.{is_one_of, bits_within_rows}
 use Rattle.least_clocks.specs.Least.{State, clocks_to_idle, clocks_to_link, first_scan, is_on_first}
-use Rattle.least_clocks.specs.Least.{is_passed, own_scan, scan_clocks, was_idle, least_from}
+use Rattle.least_clocks.specs.Least.{is_passed, own_scan, round_scan_clocks, was_idle, least_from}
 use Rattle.least_clocks.proofs.Moving.{takes}
 
 module _ (net : Net) (form : Items) (device : Device) where
@@ -43,7 +43,7 @@ module _ (net : Net) (form : Items) (device : Device) where
       omega (arith, to, ran, is)
 
   pub round_counted : (c d : Count) (g : SeenGroup) (n : ℕ) (h : Holds)
-      → is_redundant c.holds (Group g) ≡ false → n ≡ scan_clocks net form c.fresh c.holds g
+      → is_redundant c.holds (Group g) ≡ false → n ≡ round_scan_clocks net form c.fresh c.holds g
       → d ≡ record c {
         fresh = false;
         linked = true;
@@ -72,7 +72,7 @@ own_counted net form holds g rows bits same is =
 pub scans_counted : (net : Net) (form : Items) (fresh : Bool) (holds : Holds) (g : SeenGroup) (own n : ℕ)
     → own ≡ own_scan net form holds g
     → n ≡ cond fresh (first_scan net + cond (is_on_first net holds g) 0 own) own
-    → n ≡ scan_clocks net form fresh holds g
+    → n ≡ round_scan_clocks net form fresh holds g
 scans_counted net form true holds g own n is e =
     e ∙ ap (λ k. first_scan net + cond (is_on_first net holds g) 0 k) is
 scans_counted net form false holds g own n is e = e ∙ is

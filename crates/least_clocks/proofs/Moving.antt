@@ -31,7 +31,7 @@ use Rattle.svf_audit.proofs.Working.{IsWork}
 use Rattle.least_clocks.specs.Inside.{is_one_of, bits_within_rows}
 use Rattle.least_clocks.specs.Least.{State, clocks_to_idle, clocks_to_link, first_path, first_scan}
 use Rattle.least_clocks.specs.Least.{is_on_first, is_passed, own_scan, rows_around, read, round_clocks}
-use Rattle.least_clocks.specs.Least.{scan_clocks, least_from}
+use Rattle.least_clocks.specs.Least.{round_scan_clocks, least_from}
 
 abbrev pub state : Bool → Bool → Stable → Holds → State
 state fresh linked rest holds = record { fresh = fresh; linked = linked; rest = rest; holds = holds }
@@ -131,7 +131,7 @@ module _ (net : Net) (form : Items) (device : Device) where
 
   pub takes : (f l : Bool) (r : Stable) (h : Holds) (g : SeenGroup) (ws : List Work)
       → is_redundant h (Group g) ≡ false → from f l r h (Group g ∷ ws)
-      ≡ clocks_to_idle r + (clocks_to_link device l + scan_clocks net form f h g)
+      ≡ clocks_to_idle r + (clocks_to_link device l + round_scan_clocks net form f h g)
       + from false true InIdle (write_all h g.writes) ws
   takes f l r h g ws e =
       ap (λ t. with_round t (from f l r h ws) (round_clocks net form device (state f l r h) g)

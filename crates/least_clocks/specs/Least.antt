@@ -84,16 +84,16 @@ first_scan net = bits_along net (first_path net) + 5
 
 -- A round that changes a bit or reads one takes a scan of its own. The first scan goes along the path at
 -- power-up: where that hasn't all registers that the round asks for, another one follows.
-abbrev pub scan_clocks : Net → Items → Bool → Holds → SeenGroup → ℕ
-scan_clocks net form false holds g = own_scan net form holds g
-scan_clocks net form true holds g =
+abbrev pub round_scan_clocks : Net → Items → Bool → Holds → SeenGroup → ℕ
+round_scan_clocks net form false holds g = own_scan net form holds g
+round_scan_clocks net form true holds g =
     first_scan net + cond (is_on_first net holds g) 0 (own_scan net form holds g)
 
 module _ (net : Net) (form : Items) (device : Device) where
   -- with the ways to Run-Test/Idle and to the link's instruction
   abbrev pub round_clocks : State → SeenGroup → ℕ
   round_clocks s g =
-      clocks_to_idle s.rest + (clocks_to_link device s.linked + scan_clocks net form s.fresh s.holds g)
+      clocks_to_idle s.rest + (clocks_to_link device s.linked + round_scan_clocks net form s.fresh s.holds g)
 
   -- the clocks of work from a state on: a reset takes 5, and goes out from Run-Test/Idle
   abbrev pub least_from : State → List Work → ℕ

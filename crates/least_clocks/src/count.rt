@@ -13,7 +13,7 @@ ghost use Rattle.svf_audit.specs.Work.{Group as GroupWork, Cycle, Reset as Reset
 ghost use Rattle.least_clocks.specs.Counting.{Counts, state_of};
 ghost use Rattle.least_clocks.specs.Least.{start, clocks_to_idle, clocks_to_link};
 
-use crate::first::scan_clocks;
+use crate::first::round_scan_clocks;
 use crate::inside::bits_within_rows;
 use crate::rows::passed_rows;
 use crate::work::{is_redundant, write_group};
@@ -122,7 +122,7 @@ impl Count {
         }
         let rows = passed_rows(alloc, tree, &self.holds, group)?;
         let own = bits_within_rows(net, tree, rows.as_slice()) + 5;
-        let clocks = scan_clocks(alloc, net, self.fresh, &self.holds, group, own)?;
+        let clocks = round_scan_clocks(alloc, net, self.fresh, &self.holds, group, own)?;
         self.scan(device, clocks);
         write_group(&mut self.holds, group);
         Ok(())

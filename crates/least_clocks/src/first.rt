@@ -93,7 +93,7 @@ fn all_are_on(path: &[u32], holds: &Holds, group: &Group) -> bool
 /// The clocks of the scans of a round, of which its own takes this many: where no data scan reached the
 /// network yet, the first one goes along the path at power-up, and the round's own follows where that path
 /// hasn't all registers that it asks for.
-pub(crate) fn scan_clocks(
+pub(crate) fn round_scan_clocks(
     alloc: Global,
     net: &Net,
     fresh: bool,

@@ -25,7 +25,8 @@ use Rattle.net_graph.proofs.Writing.{IsHeld, set_hold-at, set_hold-other, set_ho
 use Rattle.net_graph.proofs.Places.{place_is, place_self}
 use Rattle.net_graph.proofs.Widths.{zeros_held}
 use Rattle.net_tree.specs.Lawful.{drives, IsUnshared, DrivesNone}
-use Rattle.nest_check.specs.Uses.{Selected, no_flags, noted, note, note_all, HaveFlags, driving, driving_all}
+use Rattle.nest_check.specs.Uses.{Selected, no_flags, noted, note, note_select_bits, HaveFlags, driving}
+use Rattle.nest_check.specs.Uses.{driving_all}
 use Rattle.nest_check.specs.Uses.{inputs_of, inputs}
 use Rattle.std.proofs.Math.Bool.{or_assoc, or-false, or-true}
 use Rattle.ij_bits.proofs.Lists.{any_flat, any_false}
@@ -65,7 +66,7 @@ note_fits net s b h = by_flag (hold_at s.once b)
     by_flag false = (set_hold-shape s.once b true ∙ h.0, h.1)
 
 pub note_all_fits : (net : Net) (bits : List BitId) (s : Selected)
-    → HaveFlags net s → HaveFlags net (note_all s bits)
+    → HaveFlags net s → HaveFlags net (note_select_bits s bits)
 note_all_fits net [] s h = h
 note_all_fits net (b ∷ bits) s h = note_all_fits net bits (note s b) (note_fits net s b h)
 
@@ -101,28 +102,30 @@ sees_other s b c n d k = by_flag (hold_at s.once c)
 -- one bit more, where what follows is seen from whatever number on
 sees_more : (net : Net) (x : BitId) (bits : List BitId) (s : Selected) (b : BitId) (n : ℕ)
     → HaveFlags net s → IsBitOf net x → Sees s b n
-    → ((k : ℕ) → Sees (note s x) b k → Sees (note_all (note s x) bits) b (k + count_by (same_place b) bits))
-    → Sees (note_all s (x ∷ bits)) b (n + count_by (same_place b) (x ∷ bits))
+    → ((k : ℕ) → Sees (note s x) b k → Sees (note_select_bits (note s x) bits) b (k + count_by (same_place
+    b) bits))
+    → Sees (note_select_bits s (x ∷ bits)) b (n + count_by (same_place b) (x ∷ bits))
 sees_more net x bits s b n h is k rest = by_place (same_place b x) refl
   where
     count : count_by (same_place b) (x ∷ bits) ≡ cond (same_place b x) 1 0 + count_by (same_place b) bits
     count = sum_by-cons (λ y. cond (same_place b y) 1 0) x bits
 
     by_place : (f : Bool) → same_place b x ≡ f
-        → Sees (note_all (note s x) bits) b (n + count_by (same_place b) (x ∷ bits))
+        → Sees (note_select_bits (note s x) bits) b (n + count_by (same_place b) (x ∷ bits))
     by_place true e =
         let same : b ≡ x = place_is b x e in
         let one : ◌≡◌ {A = ℕ} (cond (same_place b x) 1 0) 1 = ap (λ f. cond f 1 0) e in
         let now : Sees (note s x) b (suc n) = subst (λ c. Sees (note s x) c (suc n)) (sym same)
         (sees_again net s x n h is (subst (λ c. Sees s c n) same k)) in
-        subst (Sees (note_all (note s x) bits) b) (omega (arith, count, one)) (rest (suc n) now)
+        subst (Sees (note_select_bits (note s x) bits) b) (omega (arith, count, one)) (rest (suc n) now)
     by_place false e =
         let none : ◌≡◌ {A = ℕ} (cond (same_place b x) 1 0) 0 = ap (λ f. cond f 1 0) e in
-        subst (Sees (note_all (note s x) bits) b) (omega (arith, count, none))
+        subst (Sees (note_select_bits (note s x) bits) b) (omega (arith, count, none))
         (rest n (sees_other s b x n (other_place b x e) k))
 
 sees_all : (net : Net) (bits : List BitId) (s : Selected) (b : BitId) (n : ℕ) → HaveFlags net s
-    → All (IsBitOf net) bits → Sees s b n → Sees (note_all s bits) b (n + count_by (same_place b) bits)
+    → All (IsBitOf net) bits → Sees s b n → Sees (note_select_bits s bits) b (n + count_by (same_place b)
+    bits)
 sees_all net [] s b n h a k = subst (Sees s b) (omega arith) k
 sees_all net (x ∷ bits) s b n h a k =
     sees_more net x bits s b n h (All-head (IsBitOf net) x bits a) k
@@ -140,10 +143,12 @@ selects_are_bits net n =
 
 -- the bits that were met twice are the shared ones
 pub shared_flags : (net : Net) (twice : Holds) (b : BitId) → IsNet net
-    → twice ≡ (note_all (no_flags net) (select_bits net)).twice → IsFalse (hold_at twice b) ↔ IsUnshared net b
+    → twice ≡ (note_select_bits (no_flags net) (select_bits net)).twice → IsFalse (hold_at twice b) ↔
+    IsUnshared net b
 shared_flags net twice b n e =
-    let all : Sees (note_all (no_flags net) (select_bits net)) b (count_by (same_place b) (select_bits net)) =
-    subst (Sees (note_all (no_flags net) (select_bits net)) b) (omega arith)
+    let all : Sees (note_select_bits (no_flags net) (select_bits net)) b (count_by (same_place b)
+    (select_bits net)) =
+    subst (Sees (note_select_bits (no_flags net) (select_bits net)) b) (omega arith)
     (sees_all net (select_bits net) (no_flags net) b 0 (zeros_held net, zeros_held net)
     (selects_are_bits net n) (nothing_flagged net b, nothing_flagged net b)) in
     let flag : hold_at twice b ≡ several (count_by (same_place b) (select_bits net)) =
@@ -152,7 +157,7 @@ shared_flags net twice b n e =
     ((λ f. told.0 (sym flag ∙ f)), (λ l. flag ∙ told.1 l))
 
 pub twice_fits : (net : Net) (twice : Holds)
-    → twice ≡ (note_all (no_flags net) (select_bits net)).twice → AreHolds net twice
+    → twice ≡ (note_select_bits (no_flags net) (select_bits net)).twice → AreHolds net twice
 twice_fits net twice e =
     subst (AreHolds net) (sym e)
     (note_all_fits net (select_bits net) (no_flags net) (zeros_held net, zeros_held net)).1

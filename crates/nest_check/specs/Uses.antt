@@ -33,8 +33,8 @@ noted s b false = record { once = set_hold s.once b true; twice = s.twice }
 abbrev pub note : Selected → BitId → Selected
 note s b = noted s b (hold_at s.once b)
 
-abbrev pub note_all : Selected → List BitId → Selected
-note_all s bits = fold note s bits
+abbrev pub note_select_bits : Selected → List BitId → Selected
+note_select_bits s bits = fold note s bits
 
 -- each register bit has its flags
 abbrev pub HaveFlags : Net → Selected → Type 0

@@ -45,10 +45,10 @@ impl Selecting {
     }
 
     /// Notes the select bits of a mux.
-    fn note_all(&mut self, net: &Net, select: &[BitId])
+    fn note_select_bits(&mut self, net: &Net, select: &[BitId])
         requires flags { uses.HaveFlags net.now (uses.selected_of self.old) }
         requires there { All (IsBitOf net.now) select.now }
-        ensures { uses.selected_of self.new ≡ uses.note_all (uses.selected_of self.old) select.now }
+        ensures { uses.selected_of self.new ≡ uses.note_select_bits (uses.selected_of self.old) select.now }
     {
         for bit in select {
             self.note(net, *bit);
@@ -60,14 +60,14 @@ impl Selecting {
 fn selecting_bits(alloc: Global, net: &Net) -> Result<Selecting, OutOfMemory>
     requires { IsNet net.now }
     ensures { IfOk result (λ s. uses.selected_of s
-        ≡ uses.note_all (uses.no_flags net.now) (select_bits net.now)) }
+        ≡ uses.note_select_bits (uses.no_flags net.now) (select_bits net.now)) }
 {
     let mut selecting = Selecting {
         once: Holds::zeros(alloc, net)?,
         twice: Holds::zeros(alloc, net)?,
     };
     for mux in net.muxes.as_slice() {
-        selecting.note_all(net, mux.select.as_slice());
+        selecting.note_select_bits(net, mux.select.as_slice());
     }
     Ok(selecting)
 }

@@ -85,7 +85,7 @@ impl<'s, 'a> Scene<'s, 'a> {
     }
 
     /// An output bit of an instrument.
-    fn output(&self, inst: u32, port: u32, pos: u32) -> bool
+    fn output_bit(&self, inst: u32, port: u32, pos: u32) -> bool
         ensures { result
             ≡ outputs (chip_of self.now.bench.now).machines self.now.bench.now.state.insts inst port pos }
     {
@@ -108,7 +108,7 @@ impl<'s, 'a> Scene<'s, 'a> {
     {
         let width = output_at(self.net, inst, port).width;
         for j in 0..width {
-            add_digit(self.output(inst, port, width - 1 - j), into)?;
+            add_digit(self.output_bit(inst, port, width - 1 - j), into)?;
         }
         Ok(())
     }

@@ -44,7 +44,7 @@ impl<'a> std::marker::Model for Direct<'a> {
 }
 
 /// How many bits some rounds read, if that many can be counted.
-fn reads_in(rounds: &[Group]) -> Option<usize>
+fn count_reads(rounds: &[Group]) -> Option<usize>
     ensures { IfSome result (λ n. n ≡ reads_of (map seen_group rounds.now)) }
 {
     let mut count = 0usize;
@@ -161,7 +161,7 @@ impl<'a> Direct<'a> {
         }) }
         ensures err { OnErr result (self.new ≡ self.old) }
     {
-        let Some(count) = reads_in(rounds) else {
+        let Some(count) = count_reads(rounds) else {
             return Err(OutOfMemory);
         };
         self.reads.reserve(count)?;

@@ -20,7 +20,7 @@ use Rattle.net_graph.specs.OneRegister.{plain_register}
 use Rattle.pdl_parser.specs.declared.words.Rule.{Rule}
 use Rattle.pdl_parser.specs.Cutting.{words_of}
 use Rattle.pdl_parser.specs.Values.{AProc}
-use Rattle.pdl_parser.specs.Texts.{command_named, file_named, is_left_out, other_rule}
+use Rattle.pdl_parser.specs.Texts.{command_named, file_named, is_left_out, rule_against}
 use Rattle.pdl_parser.specs.Reading.{whole_text, read_file, read_part, read_part_after, read_level}
 use Rattle.pdl_parser.specs.Reading.{read_module, read_proc, read_proc_name, read_arguments, read_body}
 use Rattle.pdl_parser.specs.Reading.{read_body_end, read_lines, read_line, read_line_after, read_command}
@@ -184,7 +184,7 @@ one_write : result one_register ((codes "iProcsForModule chip") ++ (10 ∷ []) +
 unfolding result bound expansion procs_of whole_text words_of read_file read_part read_part_after read_level
     read_module read_proc read_proc_name read_arguments read_body read_body_end read_lines read_line
     read_line_after read_command read_prefix read_call read_write read_read read_run_loop read_note read_merge
-    read_end read_value read_values command_named file_named is_left_out other_rule
+    read_end read_value read_values command_named file_named is_left_out rule_against
 one_write = refl
 
 only_what_counts : result one_register
@@ -201,7 +201,7 @@ only_what_counts : result one_register
 unfolding result bound expansion procs_of whole_text words_of read_file read_part read_part_after read_level
     read_module read_proc read_proc_name read_arguments read_body read_body_end read_lines read_line
     read_line_after read_command read_prefix read_call read_write read_read read_run_loop read_note read_merge
-    read_end read_value read_values command_named file_named is_left_out other_rule
+    read_end read_value read_values command_named file_named is_left_out rule_against
 only_what_counts = refl
 
 last_write_wins : result one_register ((codes "iProcsForModule chip") ++ (10 ∷ []) ++ (codes "iProc p {} {")
@@ -218,7 +218,7 @@ last_write_wins : result one_register ((codes "iProcsForModule chip") ++ (10 ∷
 unfolding result bound expansion procs_of whole_text words_of read_file read_part read_part_after read_level
     read_module read_proc read_proc_name read_arguments read_body read_body_end read_lines read_line
     read_line_after read_command read_prefix read_call read_write read_read read_run_loop read_note read_merge
-    read_end read_value read_values command_named file_named is_left_out other_rule
+    read_end read_value read_values command_named file_named is_left_out rule_against
 last_write_wins = refl
 
 last_read_counts : result one_register ((codes "iProcsForModule chip") ++ (10 ∷ []) ++ (codes "iProc p {} {")
@@ -244,7 +244,7 @@ last_read_counts : result one_register ((codes "iProcsForModule chip") ++ (10 �
 unfolding result bound expansion procs_of whole_text words_of read_file read_part read_part_after read_level
     read_module read_proc read_proc_name read_arguments read_body read_body_end read_lines read_line
     read_line_after read_command read_prefix read_call read_write read_read read_run_loop read_note read_merge
-    read_end read_value read_values command_named file_named is_left_out other_rule
+    read_end read_value read_values command_named file_named is_left_out rule_against
 last_read_counts = refl
 
 nothing_to_apply : result one_register ((codes "iProcsForModule chip") ++ (10 ∷ []) ++ (codes "iProc p {} {")
@@ -254,7 +254,7 @@ nothing_to_apply : result one_register ((codes "iProcsForModule chip") ++ (10 �
 unfolding result bound expansion procs_of whole_text words_of read_file read_part read_part_after read_level
     read_module read_proc read_proc_name read_arguments read_body read_body_end read_lines read_line
     read_line_after read_command read_prefix read_call read_write read_read read_run_loop read_note read_merge
-    read_end read_value read_values command_named file_named is_left_out other_rule
+    read_end read_value read_values command_named file_named is_left_out rule_against
 nothing_to_apply = refl
 
 unapplied : result one_register ((codes "iProcsForModule chip") ++ (10 ∷ []) ++ (codes "iProc p {} {")
@@ -263,7 +263,7 @@ unapplied : result one_register ((codes "iProcsForModule chip") ++ (10 ∷ []) +
 unfolding result bound expansion procs_of whole_text words_of read_file read_part read_part_after read_level
     read_module read_proc read_proc_name read_arguments read_body read_body_end read_lines read_line
     read_line_after read_command read_prefix read_call read_write read_read read_run_loop read_note read_merge
-    read_end read_value read_values command_named file_named is_left_out other_rule
+    read_end read_value read_values command_named file_named is_left_out rule_against
 unapplied = refl
 
 unapplied_though_open : result one_register
@@ -273,7 +273,7 @@ unapplied_though_open : result one_register
 unfolding result bound expansion procs_of whole_text words_of read_file read_part read_part_after read_level
     read_module read_proc read_proc_name read_arguments read_body read_body_end read_lines read_line
     read_line_after read_command read_prefix read_call read_write read_read read_run_loop read_note read_merge
-    read_end read_value read_values command_named file_named is_left_out other_rule
+    read_end read_value read_values command_named file_named is_left_out rule_against
 unapplied_though_open = refl
 
 too_wide_a_value : result one_register ((codes "iProcsForModule chip") ++ (10 ∷ []) ++ (codes "iProc p {} {")
@@ -282,7 +282,7 @@ too_wide_a_value : result one_register ((codes "iProcsForModule chip") ++ (10 �
 unfolding result bound expansion procs_of whole_text words_of read_file read_part read_part_after read_level
     read_module read_proc read_proc_name read_arguments read_body read_body_end read_lines read_line
     read_line_after read_command read_prefix read_call read_write read_read read_run_loop read_note read_merge
-    read_end read_value read_values command_named file_named is_left_out other_rule
+    read_end read_value read_values command_named file_named is_left_out rule_against
 too_wide_a_value = refl
 
 zeros_above : result one_register ((codes "iProcsForModule chip") ++ (10 ∷ []) ++ (codes "iProc p {} {")
@@ -298,7 +298,7 @@ zeros_above : result one_register ((codes "iProcsForModule chip") ++ (10 ∷ [])
 unfolding result bound expansion procs_of whole_text words_of read_file read_part read_part_after read_level
     read_module read_proc read_proc_name read_arguments read_body read_body_end read_lines read_line
     read_line_after read_command read_prefix read_call read_write read_read read_run_loop read_note read_merge
-    read_end read_value read_values command_named file_named is_left_out other_rule
+    read_end read_value read_values command_named file_named is_left_out rule_against
 zeros_above = refl
 
 no_such_thing : result one_register ((codes "iProcsForModule chip") ++ (10 ∷ []) ++ (codes "iProc p {} {")
@@ -307,7 +307,7 @@ no_such_thing : result one_register ((codes "iProcsForModule chip") ++ (10 ∷ [
 unfolding result bound expansion procs_of whole_text words_of read_file read_part read_part_after read_level
     read_module read_proc read_proc_name read_arguments read_body read_body_end read_lines read_line
     read_line_after read_command read_prefix read_call read_write read_read read_run_loop read_note read_merge
-    read_end read_value read_values command_named file_named is_left_out other_rule
+    read_end read_value read_values command_named file_named is_left_out rule_against
 no_such_thing = refl
 
 index_outside : result one_register ((codes "iProcsForModule chip") ++ (10 ∷ []) ++ (codes "iProc p {} {")
@@ -316,7 +316,7 @@ index_outside : result one_register ((codes "iProcsForModule chip") ++ (10 ∷ [
 unfolding result bound expansion procs_of whole_text words_of read_file read_part read_part_after read_level
     read_module read_proc read_proc_name read_arguments read_body read_body_end read_lines read_line
     read_line_after read_command read_prefix read_call read_write read_read read_run_loop read_note read_merge
-    read_end read_value read_values command_named file_named is_left_out other_rule
+    read_end read_value read_values command_named file_named is_left_out rule_against
 index_outside = refl
 
 the_other_way : result one_register ((codes "iProcsForModule chip") ++ (10 ∷ []) ++ (codes "iProc p {} {")
@@ -325,7 +325,7 @@ the_other_way : result one_register ((codes "iProcsForModule chip") ++ (10 ∷ [
 unfolding result bound expansion procs_of whole_text words_of read_file read_part read_part_after read_level
     read_module read_proc read_proc_name read_arguments read_body read_body_end read_lines read_line
     read_line_after read_command read_prefix read_call read_write read_read read_run_loop read_note read_merge
-    read_end read_value read_values command_named file_named is_left_out other_rule
+    read_end read_value read_values command_named file_named is_left_out rule_against
 the_other_way = refl
 
 no_such_word : result one_register ((codes "iProcsForModule chip") ++ (10 ∷ []) ++ (codes "iProc p {} {")
@@ -334,7 +334,7 @@ no_such_word : result one_register ((codes "iProcsForModule chip") ++ (10 ∷ []
 unfolding result bound expansion procs_of whole_text words_of read_file read_part read_part_after read_level
     read_module read_proc read_proc_name read_arguments read_body read_body_end read_lines read_line
     read_line_after read_command read_prefix read_call read_write read_read read_run_loop read_note read_merge
-    read_end read_value read_values command_named file_named is_left_out other_rule
+    read_end read_value read_values command_named file_named is_left_out rule_against
 no_such_word = refl
 
 runs : result one_register ((codes "iProcsForModule chip") ++ (10 ∷ []) ++ (codes "iProc p {} {") ++ (10 ∷ [])
@@ -343,7 +343,7 @@ runs : result one_register ((codes "iProcsForModule chip") ++ (10 ∷ []) ++ (co
 unfolding result bound expansion procs_of whole_text words_of read_file read_part read_part_after read_level
     read_module read_proc read_proc_name read_arguments read_body read_body_end read_lines read_line
     read_line_after read_command read_prefix read_call read_write read_read read_run_loop read_note read_merge
-    read_end read_value read_values command_named file_named is_left_out other_rule
+    read_end read_value read_values command_named file_named is_left_out rule_against
 runs = refl
 
 too_long_a_run : result one_register ((codes "iProcsForModule chip") ++ (10 ∷ []) ++ (codes "iProc p {} {")
@@ -352,7 +352,7 @@ too_long_a_run : result one_register ((codes "iProcsForModule chip") ++ (10 ∷ 
 unfolding result bound expansion procs_of whole_text words_of read_file read_part read_part_after read_level
     read_module read_proc read_proc_name read_arguments read_body read_body_end read_lines read_line
     read_line_after read_command read_prefix read_call read_write read_read read_run_loop read_note read_merge
-    read_end read_value read_values command_named file_named is_left_out other_rule
+    read_end read_value read_values command_named file_named is_left_out rule_against
 too_long_a_run = refl
 
 too_many_cycles : result one_register ((codes "iProcsForModule chip") ++ (10 ∷ []) ++ (codes "iProc p {} {")
@@ -366,7 +366,7 @@ too_many_cycles : result one_register ((codes "iProcsForModule chip") ++ (10 ∷
 unfolding result bound expansion procs_of whole_text words_of read_file read_part read_part_after read_level
     read_module read_proc read_proc_name read_arguments read_body read_body_end read_lines read_line
     read_line_after read_command read_prefix read_call read_write read_read read_run_loop read_note read_merge
-    read_end read_value read_values command_named file_named is_left_out other_rule
+    read_end read_value read_values command_named file_named is_left_out rule_against
 too_many_cycles = refl
 
 no_count : result one_register ((codes "iProcsForModule chip") ++ (10 ∷ []) ++ (codes "iProc p {} {")
@@ -375,7 +375,7 @@ no_count : result one_register ((codes "iProcsForModule chip") ++ (10 ∷ []) ++
 unfolding result bound expansion procs_of whole_text words_of read_file read_part read_part_after read_level
     read_module read_proc read_proc_name read_arguments read_body read_body_end read_lines read_line
     read_line_after read_command read_prefix read_call read_write read_read read_run_loop read_note read_merge
-    read_end read_value read_values command_named file_named is_left_out other_rule
+    read_end read_value read_values command_named file_named is_left_out rule_against
 no_count = refl
 
 select_bit : result two_rows ((codes "iProcsForModule chip") ++ (10 ∷ []) ++ (codes "iProc p {} {")
@@ -388,7 +388,7 @@ select_bit : result two_rows ((codes "iProcsForModule chip") ++ (10 ∷ []) ++ (
 unfolding result bound expansion procs_of whole_text words_of read_file read_part read_part_after read_level
     read_module read_proc read_proc_name read_arguments read_body read_body_end read_lines read_line
     read_line_after read_command read_prefix read_call read_write read_read read_run_loop read_note read_merge
-    read_end read_value read_values command_named file_named is_left_out other_rule
+    read_end read_value read_values command_named file_named is_left_out rule_against
 select_bit = refl
 
 two_rounds : result two_rows ((codes "iProcsForModule chip") ++ (10 ∷ []) ++ (codes "iProc p {} {")
@@ -410,7 +410,7 @@ two_rounds : result two_rows ((codes "iProcsForModule chip") ++ (10 ∷ []) ++ (
 unfolding result bound expansion procs_of whole_text words_of read_file read_part read_part_after read_level
     read_module read_proc read_proc_name read_arguments read_body read_body_end read_lines read_line
     read_line_after read_command read_prefix read_call read_write read_read read_run_loop read_note read_merge
-    read_end read_value read_values command_named file_named is_left_out other_rule
+    read_end read_value read_values command_named file_named is_left_out rule_against
 two_rounds = refl
 
 first_mention_first : result two_rows ((codes "iProcsForModule chip") ++ (10 ∷ []) ++ (codes "iProc p {} {")
@@ -439,7 +439,7 @@ first_mention_first : result two_rows ((codes "iProcsForModule chip") ++ (10 ∷
 unfolding result bound expansion procs_of whole_text words_of read_file read_part read_part_after read_level
     read_module read_proc read_proc_name read_arguments read_body read_body_end read_lines read_line
     read_line_after read_command read_prefix read_call read_write read_read read_run_loop read_note read_merge
-    read_end read_value read_values command_named file_named is_left_out other_rule
+    read_end read_value read_values command_named file_named is_left_out rule_against
 first_mention_first = refl
 
 an_alias : result mixed ((codes "iProcsForModule chip") ++ (10 ∷ []) ++ (codes "iProc p {} {") ++ (10 ∷ [])
@@ -476,7 +476,7 @@ an_alias : result mixed ((codes "iProcsForModule chip") ++ (10 ∷ []) ++ (codes
 unfolding result bound expansion procs_of whole_text words_of read_file read_part read_part_after read_level
     read_module read_proc read_proc_name read_arguments read_body read_body_end read_lines read_line
     read_line_after read_command read_prefix read_call read_write read_read read_run_loop read_note read_merge
-    read_end read_value read_values command_named file_named is_left_out other_rule
+    read_end read_value read_values command_named file_named is_left_out rule_against
 an_alias = refl
 
 an_output : result mixed ((codes "iProcsForModule chip") ++ (10 ∷ []) ++ (codes "iProc p {} {") ++ (10 ∷ [])
@@ -485,7 +485,7 @@ an_output : result mixed ((codes "iProcsForModule chip") ++ (10 ∷ []) ++ (code
 unfolding result bound expansion procs_of whole_text words_of read_file read_part read_part_after read_level
     read_module read_proc read_proc_name read_arguments read_body read_body_end read_lines read_line
     read_line_after read_command read_prefix read_call read_write read_read read_run_loop read_note read_merge
-    read_end read_value read_values command_named file_named is_left_out other_rule
+    read_end read_value read_values command_named file_named is_left_out rule_against
 an_output = refl
 
 read_back_of_an_input : result mixed ((codes "iProcsForModule chip") ++ (10 ∷ []) ++ (codes "iProc p {} {") ++
@@ -506,5 +506,5 @@ read_back_of_an_input : result mixed ((codes "iProcsForModule chip") ++ (10 ∷ 
 unfolding result bound expansion procs_of whole_text words_of read_file read_part read_part_after read_level
     read_module read_proc read_proc_name read_arguments read_body read_body_end read_lines read_line
     read_line_after read_command read_prefix read_call read_write read_read read_run_loop read_note read_merge
-    read_end read_value read_values command_named file_named is_left_out other_rule
+    read_end read_value read_values command_named file_named is_left_out rule_against
 read_back_of_an_input = refl

@@ -90,7 +90,12 @@ impl<'a> Cursor<'a> {
     }
 
     /// Goes on by one bit step; `false` where there is none left.
-    fn advance(&mut self, alloc: Global, net: &Net, tree: &Tree) -> Result<bool, OutOfMemory>
+    fn advance_bit_step(
+        &mut self,
+        alloc: Global,
+        net: &Net,
+        tree: &Tree,
+    ) -> Result<bool, OutOfMemory>
         requires network { IsRetargetable net.now tree.now }
         requires can { CanGoOn net.now tree.now self.old }
         ensures can { OnOk result (CanGoOn net.now tree.now self.new) }
@@ -169,7 +174,7 @@ impl<'a> Cursor<'a> {
         ensures there { OnOk result ((scan ≤ self.new.scans) ⊎ (self.new.steps.steps ≡ [])) }
     {
         'going: while self.scans < scan {
-            if !self.advance(alloc, net, tree)? {
+            if !self.advance_bit_step(alloc, net, tree)? {
                 return Ok(());
             }
         }

@@ -254,7 +254,7 @@ impl<'a> Registers<'a> {
     }
 
     /// Puts one bit of TDI on the path.
-    fn put_tdi_bit(&mut self, kept: &LastParts, k: u32)
+    fn set_tdi_bit(&mut self, kept: &LastParts, k: u32)
         requires kept { AreLastParts kept.now }
         requires turned { IsTurned self.old (seen_tdi kept.now) k }
         requires within { k < length self.old.chain.items }
@@ -276,7 +276,7 @@ impl<'a> Registers<'a> {
     }
 
     /// Puts bits of TDI on the path, one after the other.
-    fn put_tdi_bits(&mut self, kept: &LastParts, from: u32, n: u32)
+    fn set_tdi_bits(&mut self, kept: &LastParts, from: u32, n: u32)
         requires kept { AreLastParts kept.now }
         requires turned { IsTurned self.old (seen_tdi kept.now) from }
         requires within { from + n ≤ length self.old.chain.items }
@@ -288,12 +288,12 @@ impl<'a> Registers<'a> {
             ≡ record self.old { chain = self.new.chain; after = self.new.after; moved = self.new.moved } }
     {
         for i in 0..n {
-            self.put_tdi_bit(kept, from + i);
+            self.set_tdi_bit(kept, from + i);
         }
     }
 
     /// Puts at most 64 bits of TDI on the path. Nothing is done where they are there already.
-    fn put_tdi_word(&mut self, kept: &LastParts, from: u32, n: u32)
+    fn set_tdi_word(&mut self, kept: &LastParts, from: u32, n: u32)
         requires kept { AreLastParts kept.now }
         requires few { n ≤ 64 }
         requires turned { IsTurned self.old (seen_tdi kept.now) from }
@@ -308,11 +308,11 @@ impl<'a> Registers<'a> {
         if self.chain.number(from, n) == tdi_number(kept, from, n) {
             return;
         }
-        self.put_tdi_bits(kept, from, n);
+        self.set_tdi_bits(kept, from, n);
     }
 
     /// Puts TDI on the path.
-    fn put_tdi_on_path(&mut self, kept: &LastParts)
+    fn set_tdi_on_path(&mut self, kept: &LastParts)
         requires kept { AreLastParts kept.now }
         requires turned { IsTurned self.old (seen_tdi kept.now) 0 }
         ensures turned { IsTurned self.new (seen_tdi kept.now) (length self.old.chain.items) }
@@ -324,7 +324,7 @@ impl<'a> Registers<'a> {
         let n = self.chain.len();
         for word in 0..n.div_ceil(64) {
             let from = 64 * word;
-            self.put_tdi_word(kept, from, (n - from).min(64));
+            self.set_tdi_word(kept, from, (n - from).min(64));
         }
     }
 
@@ -346,7 +346,7 @@ impl<'a> Registers<'a> {
         ensures holds { self.new.holds ≡ self.old.holds }
     {
         self.moved.clear();
-        self.put_tdi_on_path(kept);
+        self.set_tdi_on_path(kept);
     }
 
     /// Whether a bit that selects changes.

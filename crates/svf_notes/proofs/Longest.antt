@@ -27,7 +27,8 @@ use Rattle.tap_machine.specs.declared.Stable.{Stable}
 use Rattle.tap_machine.specs.declared.Stable.TheVariants.{Reset as InReset, Idle as InIdle}
 use Rattle.tap_machine.specs.Play.{LastScan, Played, after_scan, is_empty, no_scan, no_shift, pins_with}
 use Rattle.tap_machine.specs.Play.{played, scans_in, shifts, to_idle}
-use Rattle.svf_notes.specs.Explained.{note_end, explained, explained_text, note_at, notes_left, with_notes}
+use Rattle.svf_notes.specs.Explained.{closing_line_feed, explained, explained_text, note_at, notes_left}
+use Rattle.svf_notes.specs.Explained.{with_notes}
 use Rattle.svf_notes.specs.Most.{AreNamedWithin, most_of, most_of_scan}
 use Rattle.svf_notes.specs.Notes.{note_of, note_text, played_scans}
 use Rattle.svf_notes.specs.Scans.{Scan, scans_of}
@@ -42,7 +43,7 @@ abbrev pub total : List (List ℕ) → ℕ
 total [] = 0
 total (n ∷ ns) = suc (length n) + total ns
 
-closing_short : (rest : List ℕ) → length (note_end rest) ≤ 1
+closing_short : (rest : List ℕ) → length (closing_line_feed rest) ≤ 1
 closing_short rest = cases (first rest == 10)
   where
     cases : (k : Bool) → length {A = ℕ} (cond k [] (10 ∷ [])) ≤ 1
@@ -65,7 +66,7 @@ note_total true [] rest =
     omega (arith, none, left)
 note_total true (n ∷ ns) rest =
     let one : length (note_at true (n ∷ ns) rest)
-    ≡ length n + length (note_end rest) = length-append n (note_end rest) in
+    ≡ length n + length (closing_line_feed rest) = length-append n (closing_line_feed rest) in
     let left : total (notes_left true (n ∷ ns)) ≡ total ns = refl in
     let all : total (n ∷ ns) ≡ suc (length n) + total ns = refl in
     omega (arith, one, left, all, closing_short rest)

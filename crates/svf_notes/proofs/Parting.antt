@@ -13,7 +13,7 @@ use Rattle.svf_reader.specs.Meaning.{Cause, Refusal, Step, and_then, at_end, at_
 use Rattle.svf_reader.specs.Meaning.{read_command, read_from, svf}
 use Rattle.svf_reader.proofs.Whole.{read_more}
 use Rattle.tap_machine.specs.Play.{scans_in}
-use Rattle.svf_notes.specs.Explained.{note_end, note_at, notes_left, with_notes}
+use Rattle.svf_notes.specs.Explained.{closing_line_feed, note_at, notes_left, with_notes}
 use Rattle.svf_notes.specs.Noted.{BitPart, noted, through_scan, unnoted}
 use Rattle.svf_notes.proofs.Cutting.{cut}
 use Rattle.svf_notes.proofs.Effects.{Effect, read_effect}
@@ -131,7 +131,7 @@ unparted kept src new notes cs same none =
 -- ---- the note that closes a part
 
 closed : (n rest later : List ℕ) (text : List ℕ) → first later ≡ first rest
-    → IsBehind (record { text = text; note = n ++ note_end rest }) later n
+    → IsBehind (record { text = text; note = n ++ closing_line_feed rest }) later n
 closed n rest later text same = cases (first rest == 10) refl later same
   where
     cases : (k : Bool) → (first rest == 10) ≡ k → (xs : List ℕ) → first xs ≡ first rest
@@ -181,15 +181,15 @@ module _ (kept : Step) (src t u : List ℕ) (us : List (List ℕ)) (cs : List Se
   pub scan_parted : (m : List ℕ) (ms : List (List ℕ)) → Effect true step.0
       → IsParted step (drop n src) (with_notes (u ∷ us) ms (drop n src)) ms ds
       → first (with_notes (u ∷ us) ms (drop n src)) ≡ first (drop n src) → IsParted kept src
-      (front ++ ((m ++ note_end (drop n src)) ++ with_notes (u ∷ us) ms (drop n src))) (m ∷ ms) cs
+      (front ++ ((m ++ closing_line_feed (drop n src)) ++ with_notes (u ∷ us) ms (drop n src))) (m ∷ ms) cs
   scan_parted m ms effect later same =
       let rest = drop n src in
-      let p : BitPart = record { text = front; note = m ++ note_end rest } in
+      let p : BitPart = record { text = front; note = m ++ closing_line_feed rest } in
       record {
         parts = p ∷ later.parts;
         rest = later.rest;
         old = sym (take-append-drop n src) ∙ ap (λ (l : List ℕ). front ++ l) later.old;
-        whole = ap (λ (l : List ℕ). front ++ ((m ++ note_end rest) ++ l)) later.whole;
+        whole = ap (λ (l : List ℕ). front ++ ((m ++ closing_line_feed rest) ++ l)) later.whole;
         cuts = λ k at h. cases k at h;
         behind = (
           closed m rest (noted later.parts later.rest) front (ap first (sym later.whole) ∙ same),
@@ -198,7 +198,8 @@ module _ (kept : Step) (src t u : List ℕ) (us : List (List ℕ)) (cs : List Se
       }
     where
       cases : (k at : ℕ) → k ≤ suc (length later.parts) → read_from kept.1 at (texts (plain
-          (unnoted (take k (record { text = front; note = m ++ note_end (drop n src) } ∷ later.parts)) [])))
+          (unnoted (take k (record { text = front; note = m ++ closing_line_feed (drop n src) } ∷
+          later.parts)) [])))
           ≡ Ok (through_scan k cs)
       cases zero at h = refl
       cases (suc k) at h =

@@ -18,7 +18,8 @@ use Rattle.net_graph.specs.declared.device.Device.{Device}
 use Rattle.net_graph.specs.declared.net.Net.{Net}
 use Rattle.svf_notes.specs.Scans.{Scan}
 use Rattle.svf_notes.specs.Notes.{note_of, note_text, played_scans}
-use Rattle.svf_notes.specs.Explained.{note_end, note_at, notes_left, with_notes, explained, explained_text}
+use Rattle.svf_notes.specs.Explained.{closing_line_feed, note_at, notes_left, with_notes, explained}
+use Rattle.svf_notes.specs.Explained.{explained_text}
 use Rattle.svf_notes.specs.Explained.{ExplainedIsSame, SameCommands}
 use Rattle.svf_notes.proofs.Cutting.{cut}
 use Rattle.svf_notes.proofs.OnLine.{notes_on}
@@ -100,7 +101,7 @@ lines_read kept (line ∷ lines) rest cs on reads =
 -- the note is closed, by a line feed of its own or by that of the text
 closed_reads : (kept : Step) (lines : List (List ℕ)) (rest text : List ℕ) (cs : List SeenCommand)
     → AllByRecursion IsOnLine lines → first text ≡ first rest → Reads kept (plain text) cs
-    → Reads kept (plain ((note_text lines ++ note_end rest) ++ text)) cs
+    → Reads kept (plain ((note_text lines ++ closing_line_feed rest) ++ text)) cs
 closed_reads kept lines rest text cs on same reads = cases (first rest == 10) refl text same reads
   where
     cases : (k : Bool) → (first rest == 10) ≡ k → (xs : List ℕ) → first xs ≡ first rest

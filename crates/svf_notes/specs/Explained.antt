@@ -17,14 +17,14 @@ use Rattle.svf_reader.specs.Texts.{first, plain, texts, words}
 use Rattle.svf_notes.specs.Notes.{note_text, notes}
 
 -- the line feed that closes a note, unless the text goes on with one
-abbrev pub note_end : List ℕ → List ℕ
-note_end rest = cond (first rest == 10) [] (10 ∷ [])
+abbrev pub closing_line_feed : List ℕ → List ℕ
+closing_line_feed rest = cond (first rest == 10) [] (10 ∷ [])
 
 -- what comes after the `;` of a command: where it is a scan, the first note that is left
 abbrev pub note_at : Bool → List (List ℕ) → List ℕ → List ℕ
 note_at false notes rest = []
 note_at true [] rest = []
-note_at true (n ∷ ns) rest = n ++ note_end rest
+note_at true (n ∷ ns) rest = n ++ closing_line_feed rest
 
 abbrev pub notes_left : Bool → List (List ℕ) → List (List ℕ)
 notes_left false notes = notes

@@ -35,8 +35,8 @@ fn add(bytes: &[u8], piece: &mut SureSink) -> Result<(), OutOfMemory>
 }
 
 /// The line feed that closes a note, unless the text goes on with one.
-fn note_end(rest: &[u8]) -> &'static [u8]
-    ensures { result.now ≡ explained.note_end rest.now }
+fn closing_line_feed(rest: &[u8]) -> &'static [u8]
+    ensures { result.now ≡ explained.closing_line_feed rest.now }
 {
     match rest {
         [b'\n', ..] => b"",
@@ -60,7 +60,7 @@ fn add_next_note(
         None => Ok(()),
         Some(number) => {
             playing.add_note(number, piece)?;
-            add(note_end(rest), piece)?;
+            add(closing_line_feed(rest), piece)?;
             Ok(())
         }
     }

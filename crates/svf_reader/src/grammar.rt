@@ -94,7 +94,7 @@ fn is_close_byte(b: u8) -> bool
 
 /// Digits that stand together at the front of a text, and the `)` right after them. Gaps are looked for
 /// elsewhere.
-fn lone_digits(text: &[u8]) -> Option<HexText<'_>>
+fn gapless_hex(text: &[u8]) -> Option<HexText<'_>>
     ensures rest { IfSome result (λ x. Some (words_of x.rest.now) ≡ after_hex false (words_of text.now)) }
     ensures digits { IfSome result (λ x. digits_of x.digits.now ≡ digits_of text.now) }
 {
@@ -118,7 +118,7 @@ fn part_text(text: &[u8]) -> Option<HexText<'_>>
     ensures rest { option_map (λ x. words_of x.rest.now) result ≡ after_hex false (words_of text.now) }
     ensures digits { IfSome result (λ x. digits_of x.digits.now ≡ digits_of text.now) }
 {
-    match lone_digits(text) {
+    match gapless_hex(text) {
         Some(hex) => Some(hex),
         None => hex_text(text),
     }

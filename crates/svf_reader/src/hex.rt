@@ -60,7 +60,7 @@ fn have_one(digits: &[u8]) -> bool
 }
 
 /// Whether a number has a 1 at a place or above.
-fn has_one_above(value: u64, place: u32) -> bool
+fn has_one_at_or_above(value: u64, place: u32) -> bool
     requires { place ≤ 64 }
     ensures { result ≡ not (value / 2 ^ place == 0) }
 {
@@ -115,7 +115,7 @@ fn put_digits(bits: &mut Bits, len: u32, digits: &[u8]) -> bool
     let value = digits_number(parts.last);
     let left = len - bits.len();
     bits.append_number_reserved(value, left);
-    has_one_above(value, left) | have_one(parts.front)
+    has_one_at_or_above(value, left) | have_one(parts.front)
 }
 
 /// The bits of some digits, of which the last has position 0.
@@ -154,7 +154,7 @@ fn word_part(len: u32, digits: &[u8]) -> Result<ScanPart, SvfCause>
 {
     let parts = split_last(digits);
     let value = digits_number(parts.last);
-    if has_one_above(value, len) | have_one(parts.front) {
+    if has_one_at_or_above(value, len) | have_one(parts.front) {
         return Err(SvfCause::HexWide);
     }
     Ok(ScanPart::of_number(len, value))

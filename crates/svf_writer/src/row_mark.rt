@@ -11,7 +11,7 @@ use path_names::put_mux_path;
 
 /// Writes the row of a mark, and what ends its line.
 #[tactic(auto, unfolding(ij_io::specs::Words::words_text))]
-fn put_row<K: Sink>(row: u32, k: &mut K) -> Result<(), StoreFault>
+fn put_row_number<K: Sink>(row: u32, k: &mut K) -> Result<(), StoreFault>
     ensures whole { OnOk result
         (Adds (K.taken k.old) (K.taken k.new) (codes " row " ++ (decimal row ++ 10 ∷ []))) }
     ensures part { OnErr result
@@ -42,6 +42,6 @@ pub fn put_row_mark<K: Sink>(net: &Net, branch: Branch, k: &mut K) -> Result<(),
 {
     k.write(b"! mux ")?;
     put_mux_path(net, branch.mux, k)?;
-    put_row(branch.row, k)?;
+    put_row_number(branch.row, k)?;
     Ok(())
 }

@@ -48,7 +48,7 @@ fn put_inputs<K: Sink>(ins: &[PortDef], k: &mut K) -> Result<(), StoreFault>
 
 /// Writes the number at a reset, if there is one.
 #[tactic(auto, unfolding(ij_io::specs::Words::words_text))]
-fn put_reset<K: Sink>(reset: Option<u64>, k: &mut K) -> Result<(), StoreFault>
+fn put_maybe_reset<K: Sink>(reset: Option<u64>, k: &mut K) -> Result<(), StoreFault>
     ensures whole { OnOk result (Adds (K.taken k.old) (K.taken k.new) (reset_text reset)) }
     ensures part { OnErr result (AddsPart (K.taken k.old) (K.taken k.new) (reset_text reset)) }
     ensures cause { HasCause (K.faults k.old) (K.faults k.new) result StoreFault.Failed }
@@ -84,7 +84,7 @@ fn put_word<K: Sink>(d: &WordDef, k: &mut K) -> Result<(), StoreFault>
     ensures cause { HasCause (K.faults k.old) (K.faults k.new) result StoreFault.Failed }
 {
     put_word_front(d, k)?;
-    put_reset(d.reset, k)?;
+    put_maybe_reset(d.reset, k)?;
     k.write(b"\n")?;
     Ok(())
 }
@@ -132,7 +132,7 @@ fn put_memory_line<K: Sink>(d: &MemDef, k: &mut K) -> Result<(), StoreFault>
     ensures cause { HasCause (K.faults k.old) (K.faults k.new) result StoreFault.Failed }
 {
     put_memory_front(d, k)?;
-    put_reset(d.reset, k)?;
+    put_maybe_reset(d.reset, k)?;
     k.write(b"\n")?;
     Ok(())
 }

@@ -46,7 +46,8 @@ returns c =
     let ys = c.from.result.items in
     let none : 0 ≡ w - 64 * c.loop-i.i = omega arith in
     let value : ys ≡ bits_of w c.args.n =
-    c.from.ensures ∙ sym (append-nil xs) ∙ ap (λ k. xs ++ bits_of k c.loop-i.rest) none ∙ c.loop-i.invariant.so_far in
+    c.from.ensures ∙ sym (append-nil xs) ∙ ap (λ k. xs ++ bits_of k c.loop-i.rest) none ∙
+    c.loop-i.invariant.so_far in
     let care = c.from-2.ensures ∙ c.fill.ensures.items
     ∙ ap (λ k. replicate k true) (ap length c.in_ok-care.ensures ∙ length-replicate w false) in
     ap (open_bits ys) care ∙ all_ones ys w (ap length value ∙ length-bits_of w c.args.n)

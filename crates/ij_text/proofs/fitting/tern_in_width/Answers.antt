@@ -11,10 +11,12 @@ returns c =
     let t = c.args.t.now in
     let w = c.args.width in
     let n = c.min-n.result in
-    let value = c.from.ensures ∙ c.in_ok-append.ensures.ok ∙ ap (λ (l : List Bool). l ++ c.in_ok-above.above.items)
+    let value = c.from.ensures ∙ c.in_ok-append.ensures.ok ∙ ap (λ (l : List Bool). l ++
+    c.in_ok-above.above.items)
     (c.in_ok-value.ensures ∙ between_from_start t.value.items n)
     ∙ ap (λ (l : List Bool). take n t.value.items ++ l) c.in_ok-above.ensures in
-    let care = c.from-2.ensures ∙ c.in_ok-append-2.ensures.ok ∙ ap (λ (l : List Bool). l ++ c.fill.new.self.items)
+    let care = c.from-2.ensures ∙ c.in_ok-append-2.ensures.ok ∙ ap (λ (l : List Bool). l ++
+    c.fill.new.self.items)
     (c.in_ok-care.ensures ∙ between_from_start t.care.items n)
     ∙ ap (λ (l : List Bool). take n t.care.items ++ l) (c.fill.ensures.items
     ∙ ap (λ k. replicate k true) (ap length c.in_ok-above.ensures ∙ length-replicate (w - n) false)) in

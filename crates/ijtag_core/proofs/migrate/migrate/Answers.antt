@@ -21,7 +21,7 @@ use Rattle.ijtag_core.proofs.migrate.migrate.Goals as goal
 pub returns-in-Ok-clause-done : goal.returns-in-Ok-clause-done
 returns-in-Ok-clause-done g c =
     let files : Option Files = g.S.Shelf.files c.args.shelf.now in
-    let mid : Option Files = g.S.Shelf.files c.load_all.new.shelf in
+    let mid : Option Files = g.S.Shelf.files c.load_files.new.shelf in
     let new : Option Files = g.S.Shelf.files c.write_file.new.shelf in
     let words : Migrate = seen_migrate c.args.words.now in
     let texts : List (List ℕ) = seen_texts c.in_ok-texts.texts.items in
@@ -41,7 +41,7 @@ returns-in-Ok-clause-done g c =
 pub returns-clause-stop : goal.returns-clause-stop
 returns-clause-stop g c =
     let files : Option Files = g.S.Shelf.files c.args.shelf.now in
-    let mid : Option Files = g.S.Shelf.files c.load_all.new.shelf in
+    let mid : Option Files = g.S.Shelf.files c.load_files.new.shelf in
     let new : Option Files = g.S.Shelf.files c.write_file.new.shelf in
     let words : Migrate = seen_migrate c.args.words.now in
     let texts : List (List ℕ) = seen_texts c.in_ok-texts.texts.items in
@@ -67,7 +67,7 @@ returns-clause-stop g c =
 pub returns-clause-part : goal.returns-clause-part
 returns-clause-part g c =
     let files : Option Files = g.S.Shelf.files c.args.shelf.now in
-    let mid : Option Files = g.S.Shelf.files c.load_all.new.shelf in
+    let mid : Option Files = g.S.Shelf.files c.load_files.new.shelf in
     let new : Option Files = g.S.Shelf.files c.write_file.new.shelf in
     let words : Migrate = seen_migrate c.args.words.now in
     let texts : List (List ℕ) = seen_texts c.in_ok-texts.texts.items in

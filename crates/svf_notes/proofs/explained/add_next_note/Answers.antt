@@ -4,7 +4,7 @@ use Rattle.std.specs.Prelude.{MatchOption}
 use Rattle.instruments.specs.declared.Counts.{Counts}
 use Rattle.net_graph.specs.declared.device.Device.{Device}
 use Rattle.net_graph.specs.declared.net.Net.{Net}
-use Rattle.svf_notes.specs.Explained.{note_end, note_at}
+use Rattle.svf_notes.specs.Explained.{closing_line_feed, note_at}
 use Rattle.svf_notes.specs.Left.{left_notes, left_scans}
 use Rattle.svf_notes.specs.Notes.{note_of, note_text}
 use Rattle.svf_notes.specs.Scans.{Scan}
@@ -39,9 +39,9 @@ returns-in-None-clause-left c =
 
 -- a note and what closes it
 noted : (l ns : List (List ℕ)) (text old mid new rest : List ℕ) → l ≡ text ∷ ns → mid ≡ old ++ text
-    → new ≡ mid ++ note_end rest → new ≡ old ++ note_at true l rest
+    → new ≡ mid ++ closing_line_feed rest → new ≡ old ++ note_at true l rest
 noted l ns text old mid new rest is first more =
-    more ∙ ap (λ m. m ++ note_end rest) first ∙ append_assoc old text (note_end rest)
+    more ∙ ap (λ m. m ++ closing_line_feed rest) first ∙ append_assoc old text (closing_line_feed rest)
     ∙ ap (λ n. old ++ note_at true n rest) (sym is)
 
 pub returns-in_ok-add-in-Some-clause-text : goal.returns-in_ok-add-in-Some-clause-text
@@ -61,7 +61,7 @@ returns-in_ok-add-in-Some-clause-text c =
     noted (left_notes p) (map f (left_scans q))
     (f x) c.args.piece.now c.add_note.new.piece c.add.new.piece c.args.rest.now
     (same_notes p p refl refl ∙ (one_note f (left_scans p) (left_scans q) x (f x) is refl).0) text
-    (c.in_ok-add-in-Some.ensures ∙ ap (λ (l : List ℕ). c.add_note.new.piece ++ l) c.note_end.ensures)
+    (c.in_ok-add-in-Some.ensures ∙ ap (λ (l : List ℕ). c.add_note.new.piece ++ l) c.closing_line_feed.ensures)
 
 pub returns-in_ok-add-in-Some-clause-left : goal.returns-in_ok-add-in-Some-clause-left
 returns-in_ok-add-in-Some-clause-left c =

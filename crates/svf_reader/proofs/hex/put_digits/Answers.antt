@@ -47,7 +47,7 @@ returns-clause-wide c =
     let few : n ≤ 64 = omega (arith, c.len.ensures, c.put_words-rest.ensures.near) in
     let sum : k + n ≡ c.args.len = omega (arith, c.len.ensures, c.put_words-rest.ensures.within) in
     ap (λ (b : Bool). b || c.have_one.result)
-    (c.has_one_above.ensures ∙ ap (λ v. not ((v / 2 ^ n) == 0)) c.digits_number-value.ensures)
+    (c.has_one_at_or_above.ensures ∙ ap (λ v. not ((v / 2 ^ n) == 0)) c.digits_number-value.ensures)
     ∙ ap (λ (b : Bool). not ((number_of (hex_bits last) / 2 ^ n) == 0) || b) c.have_one.ensures
     ∙ sym (wide_is k n all rest front last parts few c.put_words-rest.ensures.left)
     ∙ ap (λ m. has_one (drop m all)) sum

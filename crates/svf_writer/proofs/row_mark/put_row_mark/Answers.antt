@@ -14,15 +14,15 @@ returns-in_err-put_mux_path-clause-part g c =
     (adds_part_as (row_is (mux_path c.args.net.now c.args.branch.mux) c.args.branch.row)
     (adds_then_part c.in_ok-write.ensures.whole (adds_front _ c.in_err-put_mux_path.ensures.part)))
 
-pub returns-in_err-put_row-clause-part : goal.returns-in_err-put_row-clause-part
-returns-in_err-put_row-clause-part g c =
-    at_refusal c.from_residual-in_err-put_row.result
+pub returns-in_err-put_row_number-clause-part : goal.returns-in_err-put_row_number-clause-part
+returns-in_err-put_row_number-clause-part g c =
+    at_refusal c.from_residual-in_err-put_row_number.result
     (adds_part_as (row_is (mux_path c.args.net.now c.args.branch.mux) c.args.branch.row)
     (adds_then_part c.in_ok-write.ensures.whole
-    (adds_then_part c.in_ok-put_mux_path.ensures.whole c.in_err-put_row.ensures.part)))
+    (adds_then_part c.in_ok-put_mux_path.ensures.whole c.in_err-put_row_number.ensures.part)))
 
 pub returns-clause-whole : goal.returns-clause-whole
 returns-clause-whole g c =
     adds_as (row_is (mux_path c.args.net.now c.args.branch.mux) c.args.branch.row)
     (adds_both c.in_ok-write.ensures.whole
-    (adds_both c.in_ok-put_mux_path.ensures.whole c.in_ok-put_row.ensures.whole))
+    (adds_both c.in_ok-put_mux_path.ensures.whole c.in_ok-put_row_number.ensures.whole))

@@ -7,17 +7,19 @@ pub returns-in_err-put_word_front-clause-part : goal.returns-in_err-put_word_fro
 returns-in_err-put_word_front-clause-part g c = at_refusal c.from_residual.result
     (adds_part_as (word_pieces (seen_word c.args.d.now)) (adds_front _ c.in_err-put_word_front.ensures.part))
 
-pub returns-in_err-put_reset-clause-part : goal.returns-in_err-put_reset-clause-part
-returns-in_err-put_reset-clause-part g c =
-    at_refusal c.from_residual-in_err-put_reset.result (adds_part_as (word_pieces (seen_word c.args.d.now))
-    (adds_then_part c.in_ok-put_word_front.ensures.whole (adds_front _ c.in_err-put_reset.ensures.part)))
+pub returns-in_err-put_maybe_reset-clause-part : goal.returns-in_err-put_maybe_reset-clause-part
+returns-in_err-put_maybe_reset-clause-part g c =
+    at_refusal c.from_residual-in_err-put_maybe_reset.result (adds_part_as (word_pieces (seen_word
+    c.args.d.now))
+    (adds_then_part c.in_ok-put_word_front.ensures.whole (adds_front _
+    c.in_err-put_maybe_reset.ensures.part)))
 
 pub returns-in_err-write-clause-part : goal.returns-in_err-write-clause-part
 returns-in_err-write-clause-part g c = at_refusal c.from_residual-in_err-write.result
     (adds_part_as (word_pieces (seen_word c.args.d.now)) (adds_then_part c.in_ok-put_word_front.ensures.whole
-    (adds_then_part c.in_ok-put_reset.ensures.whole c.in_err-write.ensures.part)))
+    (adds_then_part c.in_ok-put_maybe_reset.ensures.whole c.in_err-write.ensures.part)))
 
 pub returns-clause-whole : goal.returns-clause-whole
 returns-clause-whole g c =
     adds_as (word_pieces (seen_word c.args.d.now)) (adds_both c.in_ok-put_word_front.ensures.whole
-    (adds_both c.in_ok-put_reset.ensures.whole c.in_ok-write.ensures.whole))
+    (adds_both c.in_ok-put_maybe_reset.ensures.whole c.in_ok-write.ensures.whole))

@@ -11,5 +11,5 @@ loop-j-preserved c =
     let at = outputs (chip_of b).machines b.state.insts c.args.inst c.args.port in
     let w = c.output_at.result.now.width in
     digits_next at (c.args.into.now.items ++ digits at w) c.loop-j.into.items c.add_digit.new.into.items w
-    c.loop-j.j (w - 1 - c.loop-j.j) c.output.result c.loop-j-test.true refl c.output.ensures
+    c.loop-j.j (w - 1 - c.loop-j.j) c.output_bit.result c.loop-j-test.true refl c.output_bit.ensures
     c.in_ok-add_digit.ensures c.loop-j.invariant
