@@ -1,6 +1,6 @@
 #!/usr/bin/env python3
-"""Draws functions at random: walk.py [SEED [COUNT]], at the top of a checkout. Of each it prints crate, file and signature's first line, one
-crate after another. A reader who sees no more should know where each is and what it may touch; where not, a name is wrong."""
+"""Draws functions at random: walk.py [SEED [COUNT]], at the top of a checkout. Of each it prints crate, file, name, and the type that a method is of, one crate
+after another. A reader who sees no more should know where each is and what it may touch; where not, a name is wrong."""
 import pathlib
 import random
 import re

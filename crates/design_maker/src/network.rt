@@ -103,7 +103,7 @@ fn add_sibs(alloc: Global, i: u32, sibs: u32, items: &mut Items) -> Result<(), O
     Ok(())
 }
 
-/// The register of instrument i, which its innermost SIB selects.
+/// Adds the instance of the register of instrument i, which its innermost SIB selects.
 #[tactic(auto, unfolding(crate::specs::Parts::HasAdded))]
 fn add_wrap_instance(
     alloc: Global,

@@ -206,7 +206,7 @@ fn first_ref(refs: Option<List<Ref>>) -> Option<Ref>
     }
 }
 
-/// Adds what the ports of a cell are, which are bound so.
+/// Adds what [`bound_cell_ports`] answers.
 fn add_cell_ports(
     alloc: Global,
     bindings: &Bindings,
@@ -224,7 +224,7 @@ fn add_cell_ports(
     Ok(())
 }
 
-/// What the ports of a cell are, which are bound so.
+/// What each part of a cell is as a port, its bits as these bindings have them; nothing where it is none.
 fn bound_cell_ports(
     alloc: Global,
     bindings: &Bindings,

@@ -144,7 +144,8 @@ fn finished_cell<'a>(
     }
 }
 
-/// The cell of an instance, which is in these modules, its own among them.
+/// The cell of an instance, whose module and those around it are `above`, with the instances that it asks for
+/// and what is counted with it.
 #[tactic(auto, unfolding(crate::specs::FirstPass::cell_of_request))]
 fn cell_of_request<'a>(
     alloc: Global,
@@ -242,7 +243,7 @@ fn push_entered<'a>(
     }
 }
 
-/// The number of the next cell, and the cell, which is in these modules, its own among them.
+/// The number of the next cell, and the cell, as [`cell_of_request`] says.
 fn entered_next<'a>(
     alloc: Global,
     modules: &'a [Module],

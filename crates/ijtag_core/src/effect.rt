@@ -61,7 +61,8 @@ pub trait Effect {
     fn prints(&self) -> bool
         ensures { result ≡ (table_row self.now).prints };
 
-    /// Does it to what the texts are accepted as. After a refusal nothing of it is there, or a first part.
+    /// Does the command to what its texts were accepted as. After a refusal nothing of it is there, or a
+    /// first part.
     fn act<'a, S: Shelf, O: Sink>(
         &'a self,
         alloc: Global,

@@ -239,7 +239,7 @@ fn limit_args(alloc: Global, which: &[u8], number: u64) -> Result<List<Arg>, Out
     two(alloc, Arg::Said(which), Arg::Num(number))
 }
 
-/// A refusal that tells a limit and its number.
+/// A refusal that tells a limit and its number, or `OutOfMemory` where there is none for it.
 pub fn refused_limit(alloc: Global, stage: Stage, which: &[u8], number: u64) -> StageFault
     ensures { IsToldAs (Some
         (record { stage = stage; kind = codes "Limit"; args = Said which.now ∷ Num number ∷ [] })) result }

@@ -71,8 +71,8 @@ fn load_one<'a, S: Shelf>(
     }
 }
 
-/// Loads these files in their order, each once, and stops at the first that can't be loaded or is too long.
-/// No file changes, and the counts of no other names.
+/// Loads these files in their order, each once, and stops at the first that can't be loaded or is too long,
+/// or where memory ends. No file changes, and the counts of no other names.
 pub fn load_files<'a, S: Shelf>(
     alloc: Global,
     loads: &[Load<'a>],

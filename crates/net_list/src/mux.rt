@@ -17,7 +17,7 @@ use net_graph::{BitId, Net, Row};
 use net_tree::Tree;
 use path_names::put_mux_path;
 
-/// Writes the name of a bit, in JSON in quotes.
+/// Writes some bytes and then the name of a bit, in JSON in quotes.
 fn put_bit<K: Sink>(
     format: ListFormat,
     before: &[u8],

@@ -102,6 +102,7 @@ fn put_all_words<K: Sink>(words: &[WordDef], k: &mut K) -> Result<(), StoreFault
     Ok(())
 }
 
+/// Writes a memory, up to the end of its line.
 #[tactic(auto, unfolding(ij_io::specs::Words::words_text))]
 fn put_memory_front<K: Sink>(d: &MemDef, k: &mut K) -> Result<(), StoreFault>
     ensures whole { OnOk result (Adds (K.taken k.old) (K.taken k.new) (memory_front (seen_memory d.now))) }

@@ -97,6 +97,7 @@ fn put_cond<K: Sink>(m: &Model, c: &Cond, k: &mut K) -> Result<(), StoreFault>
     Ok(())
 }
 
+/// Writes a condition after another one.
 fn put_next_cond<K: Sink>(m: &Model, c: &Cond, k: &mut K) -> Result<(), StoreFault>
     requires { IsModel (seen_model m.now) }
     ensures whole { OnOk result (Adds (K.taken k.old) (K.taken k.new) (next_cond (seen_model m.now) c.now)) }
