@@ -52,12 +52,10 @@ def twice(found, least):
 
 # private ones of a crate that nearly all others depend on: shared when that crate changes next
 LATER = {('mux_test', 'no_line_end'), ('mux_test', 'in_names'), ('mux_test', 'name_on_line'), ('path_planner', 'row_from_ge'),
-         ('path_planner', 'then_alike'),
-         ('mux_test', 'meet'), ('mux_test', 'is_entry'), ('mux_test', 'row_point_there'), ('mux_test', 'path_bits'), ('mux_test', 'each-length'),
-         ('path_planner', 'inner_more'), ('report', 'node_of'), ('report', 'thing_of'), ('net_graph', 'row_source'), ('net_list', 'lines_next'),
-         ('net_list', 'lines_done'), ('net_list', 'mux_count'), ('least_clocks', 'is_on'),
+         ('mux_test', 'is_entry'), ('mux_test', 'row_point_there'), ('mux_test', 'path_bits'), ('mux_test', 'each-length'),
+         ('report', 'node_of'), ('report', 'thing_of'), ('net_graph', 'row_source'), ('net_list', 'mux_count'), ('least_clocks', 'is_on'),
          ('net_graph', 'length-shift'), ('net_graph', 'some_mux'), ('svf_notes', 'on_both'), ('svf_notes', 'four_digits'), ('svf_notes', 'split_first'), ('svf_notes', 'split_last'),
-         ('net_wave', 'first'), ('net_wave', 'is_itself'), ('net_wave', 'not_tck'), ('net_wave', 'drop_next'), ('net_wave', 'words_narrow'),
+         ('net_wave', 'first'), ('net_wave', 'is_itself'), ('net_wave', 'not_tck'), ('net_wave', 'words_narrow'),
          ('tap_machine', 'digit_le'), ('tap_machine', 'half_is'), ('tap_machine', 'bits_of-number_of'), ('tap_machine', 'bits_of_none'),
          ('net_bench', 'same_self'), ('net_bench', 'is_one'), ('ij_text', 'bits_split')}
 

@@ -31,9 +31,9 @@ pub fn designs_have_icl_names()
     ensures { DesignsAreWritten }
 {}
 
-/// Where the names of a design's modules, items and words are names of ICL, and its multiplexers have a select
-/// and rows, each with a value, so have the modules of its cells, and each cell below the top has a name of
-/// ICL.
+/// Where the names of a design's modules, items and words are names of ICL, and its multiplexers have a
+/// select and rows, each with a value, so have the modules of its cells, and each cell below the top has a
+/// name of ICL.
 pub fn frames_have_icl_names()
     ensures { FramesAreWritten }
 {}

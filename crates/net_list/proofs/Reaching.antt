@@ -27,6 +27,7 @@ use Rattle.net_tree.specs.ScanPlans.{seen_plan}
 use Rattle.std.proofs.lemmas.List.{length-map}
 use Rattle.path_planner.specs.Scannable.{IsScannable}
 use Rattle.path_planner.specs.Settling.{is_in_row}
+use Rattle.path_planner.proofs.Depth.{inner}
 use Rattle.path_planner.proofs.Among.{Among, among-left, among-right, among-cases, all_among, among_contains}
 use Rattle.path_planner.proofs.Among.{contains_among, true_on, true_all, all_true}
 use Rattle.path_planner.proofs.Inside.{around, reg_item, mux_place, path_open, open_path}
@@ -42,47 +43,6 @@ use Rattle.net_list.specs.Fewest.{fewest_scans, names, ScansAreFewest}
 use Rattle.net_list.specs.Lines.{register_text, register_line}
 
 -- ---- the innermost row of a place
-
--- an item is where its list is, or in a row of the innermost mux around it
-abbrev IsInner : List Placed → List Branch → Type 0
-IsInner xs place = (y : Placed) × (m q : ℕ) × Among y xs
-    × (y.item ≡ FromMux m) × (place ≡ y.place ++ one_branch m q)
-
-inner_more : (xs ys : List Placed) (place : List Branch)
-    → ((y : Placed) → Among y xs → Among y ys) → IsInner xs place → IsInner ys place
-inner_more xs ys place f (y, m, q, a, i, e) = (y, m, q, f y a, i, e)
-
-mutual
-  inner : (items : Items) (around : List Branch) (x : Placed) → Among x (placed around items)
-      → (x.place ≡ around) ⊎ IsInner (placed around items) x.place
-  inner Nothing around x a = absurd a
-  inner (RegThen r rest) around x a =
-      ⊎_elim (λ e. inl (ap (λ z. z.place) (sym e)))
-      (λ b. ⊎_elim (λ e. inl e) (λ e. inr (inner_more (placed around rest)
-      (placed around (RegThen r rest)) x.place (λ y z. inr z) e)) (inner rest around x b)) a
-  inner (MuxThen m rows rest) around x a =
-      let within = placed_rows around m 0 rows in
-      let after = placed around rest in
-      let all = placed around (MuxThen m rows rest) in
-      ⊎_elim (λ e. inl (ap (λ z. z.place) (sym e))) (λ b. ⊎_elim
-      (λ c. ⊎_elim (λ (q, e). inr (record { item = FromMux m; place = around }, m, q, inl refl, refl, e))
-      (λ e. inr (inner_more within all x.place (λ y z. inr (among-left y within after z)) e))
-      (row_inner rows around m 0 x c)) (λ c. ⊎_elim (λ e. inl e)
-      (λ e. inr (inner_more after all x.place (λ y z. inr (among-right y within after z)) e))
-      (inner rest around x c)) (among-cases x within after b)) a
-
-  row_inner : (rows : Rows) (around : List Branch) (m k : ℕ) (x : Placed)
-      → Among x (placed_rows around m k rows)
-      → ((q : ℕ) × (x.place ≡ around ++ one_branch m q)) ⊎ IsInner (placed_rows around m k rows) x.place
-  row_inner NoRow around m k x a = absurd a
-  row_inner (RowThen items rest) around m k x a =
-      let within = placed (around ++ one_branch m k) items in
-      let after = placed_rows around m (suc k) rest in
-      ⊎_elim (λ b. ⊎_elim (λ e. inl (k, e))
-      (λ e. inr (inner_more within (within ++ after) x.place (λ y z. among-left y within after z) e))
-      (inner items (around ++ one_branch m k) x b)) (λ b. ⊎_elim (λ e. inl e)
-      (λ e. inr (inner_more after (within ++ after) x.place (λ y z. among-right y within after z) e))
-      (row_inner rest around m (suc k) x b)) (among-cases x within after a)
 
 -- the place of a register is empty, or what a row needs
 module _ (net : Net) (form : Items) (d : Describes net form) where

@@ -1,6 +1,5 @@
 mod Walking
 mod Rooms
-mod Lines
 mod Gathering
 mod Whole
 mod Areas

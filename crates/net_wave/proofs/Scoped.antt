@@ -11,6 +11,7 @@ use Rattle.net_graph.specs.declared.net.Net.{Net}
 use Rattle.net_graph.specs.declared.net.Node.{Node as NodeOf}
 use Rattle.net_graph.specs.Nets.{IsNet, path_of}
 use Rattle.net_graph.specs.PathNames.{node_names}
+use Rattle.tap_machine.proofs.Shifts.{drop_twice}
 use Rattle.net_wave.specs.declared.var.Item.{Item}
 use Rattle.net_wave.specs.declared.var.Item.TheVariants.{Open, Declare, Close}
 use Rattle.net_wave.specs.declared.var.Scope.TheVariants.{Node, Words}
@@ -41,12 +42,6 @@ drop_all : {X : Type 0} (xs : List X) → drop 0 xs ≡ xs
 drop_all [] = refl
 drop_all (x ∷ xs) = refl
 
-drop_next : {X : Type 0} (n : ℕ) (xs : List X) → drop 1 (drop n xs) ≡ drop (suc n) xs
-drop_next zero [] = refl
-drop_next zero (x ∷ xs) = refl
-drop_next (suc n) [] = refl
-drop_next (suc n) (x ∷ xs) = drop_next n xs
-
 vars_both : (is js : List Item) → vars_of (is ++ js) ≡ vars_of is ++ vars_of js
 vars_both [] js = refl
 vars_both (Open s ∷ is) js = vars_both is js
@@ -69,7 +64,7 @@ inside_dropped : (names scopes : Scopes) (n : ℕ) → n ≡ length names → dr
 inside_dropped [] scopes zero e = drop_all scopes
 inside_dropped [] scopes (suc n) e = absurd (omega (arith, e))
 inside_dropped (x ∷ names) scopes zero e = absurd (omega (arith, e))
-inside_dropped (x ∷ names) scopes (suc n) e = sym (drop_next n (inside (x ∷ scopes) names))
+inside_dropped (x ∷ names) scopes (suc n) e = sym (drop_twice n (inside (x ∷ scopes) names))
     ∙ ap (drop 1) (inside_dropped names (x ∷ scopes) n (omega (arith, e)))
 
 take_drop : {X : Type 0} (n : ℕ) (xs : List X) → take n xs ++ drop n xs ≡ xs
@@ -196,7 +191,7 @@ module _ (net : Net) (top : List ℕ) where
     closes : (n : ℕ) (s : Scopes) → Lead s (up_to close_item n) (drop n s)
     closes zero s = record { found = refl; ends = sym (drop_all s) }
     closes (suc n) s = lead_both s (drop n s) (drop (suc n) s) (up_to close_item n) (Close ∷ []) (closes n s)
-        (record { found = refl; ends = drop_next n s })
+        (record { found = refl; ends = drop_twice n s })
 
   -- ---- nodes
 

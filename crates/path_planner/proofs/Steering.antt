@@ -20,7 +20,7 @@ use Rattle.path_planner.proofs.Among.{among_all, among_map_back, contains_among}
 use Rattle.path_planner.proofs.Apart.{part_in}
 use Rattle.path_planner.proofs.Step.{map_among, selects}
 
-then_alike : (f g : Point → Option (List ℕ)) → ((p : Point) → f p ≡ g p) → (o : Option Point)
+pub then_alike : (f g : Point → Option (List ℕ)) → ((p : Point) → f p ≡ g p) → (o : Option Point)
     → option_and_then f o ≡ option_and_then g o
 then_alike f g e None = refl
 then_alike f g e (Some p) = e p

@@ -13,6 +13,7 @@ use Rattle.net_graph.specs.declared.net.Point.{Point}
 use Rattle.net_graph.specs.declared.net.Point.TheVariants.{Entry, Reg, Mux as FromMux}
 use Rattle.net_graph.specs.Path.{is_select, mux_source, reg_source, rows_of, same_place, trace, route_of}
 use Rattle.net_graph.specs.Signals.{Holds, hold_at, row_point, some_matches}
+use Rattle.path_planner.proofs.Steering.{then_alike}
 use Rattle.svf_audit.specs.Audit.{has_row}
 use Rattle.svf_audit.proofs.Places.{place_of}
 
@@ -57,11 +58,6 @@ module _ (s t : Holds) where
       ap (λ bits. list_any (λ row. some_matches row.values.items bits) mux.rows.items && list_all
       (has_row s) muxes) (values_alike mux.select.items (alike_first mux muxes e))
       ∙ ap (λ t2. has_row t mux && t2) (rows_alike muxes (alike_rest mux muxes e))
-
-then_alike : (f g : Point → Option (List ℕ)) → ((p : Point) → f p ≡ g p) → (o : Option Point)
-    → option_and_then f o ≡ option_and_then g o
-then_alike f g e None = refl
-then_alike f g e (Some p) = e p
 
 module _ (net : Net) (s t : Holds) (same : (b : BitId)
     → is_select net b ≡ true → hold_at s b ≡ hold_at t b) where

@@ -3,7 +3,7 @@ use Rattle.ij_io.proofs.Adding.{adds_as, adds_part_as, at_refusal}
 use Rattle.ij_io.proofs.Fronts.{AddsFront, front_next, front_part}
 use Rattle.net_picture.specs.Dot.{register_node}
 use Rattle.net_list.specs.Listing.{lines_from}
-use Rattle.net_picture.proofs.Lines.{line_then, all_lines}
+use Rattle.net_list.proofs.Pieces.{lines_next, lines_done}
 use Rattle.net_picture.proofs.dot.put_register_nodes.Goals as goal
 
 pub returns-in_err-put_register_node-clause-part : goal.returns-in_err-put_register_node-clause-part
@@ -15,7 +15,7 @@ returns-in_err-put_register_node-clause-part g c =
     let next : i + 1 ≡ suc i = omega arith in
     let front = subst (λ (rest : List ℕ). AddsFront (g.K.Sink.taken c.args.k.now)
     (g.K.Sink.taken c.loop-reg.k) rest (lines_from line 0 count))
-    (line_then line i (i + 1) (count - i) (count - (i + 1)) more next) c.loop-reg.invariant.front in
+    (lines_next line i (i + 1) (count - i) (count - (i + 1)) more next) c.loop-reg.invariant.front in
     at_refusal c.from_residual.result
     (adds_part_as (ap (lines_from line 0) c.register_count-count.ensures) (front_part (line i)
     (lines_from line (i + 1) (count - (i + 1))) front c.in_err-put_register_node.ensures.part))
@@ -29,7 +29,7 @@ loop-reg-preserved g c =
     let next : i + 1 ≡ suc i = omega arith in
     let front = subst (λ (rest : List ℕ). AddsFront (g.K.Sink.taken c.args.k.now)
     (g.K.Sink.taken c.loop-reg.k) rest (lines_from line 0 count))
-    (line_then line i (i + 1) (count - i) (count - (i + 1)) more next) c.loop-reg.invariant.front in
+    (lines_next line i (i + 1) (count - i) (count - (i + 1)) more next) c.loop-reg.invariant.front in
     record {
       front = front_next (line i)
           (lines_from line (i + 1) (count - (i + 1))) front c.in_ok-put_register_node.ensures.whole;
@@ -40,5 +40,5 @@ pub returns-clause-whole : goal.returns-clause-whole
 returns-clause-whole g c =
     let line : ℕ → List ℕ = register_node c.args.net.now c.args.marks.marked c.args.marks.met.now in
     let none : c.register_count-count.result - c.loop-reg.reg ≡ 0 = omega (arith, c.loop-reg-test.false) in
-    adds_as (ap (lines_from line 0) c.register_count-count.ensures) (all_lines line c.loop-reg.reg
+    adds_as (ap (lines_from line 0) c.register_count-count.ensures) (lines_done line c.loop-reg.reg
     (c.register_count-count.result - c.loop-reg.reg) none c.loop-reg.invariant.front)

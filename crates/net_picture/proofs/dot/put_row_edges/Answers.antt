@@ -3,7 +3,7 @@ use Rattle.ij_io.proofs.Adding.{adds_as, adds_part_as, at_refusal}
 use Rattle.ij_io.proofs.Fronts.{AddsFront, front_next, front_part}
 use Rattle.net_picture.specs.Dot.{row_line}
 use Rattle.net_list.specs.Listing.{lines_from}
-use Rattle.net_picture.proofs.Lines.{line_then, all_lines}
+use Rattle.net_list.proofs.Pieces.{lines_next, lines_done}
 use Rattle.net_picture.proofs.dot.put_row_edges.Goals as goal
 
 pub returns-in_err-put_row_line-clause-part : goal.returns-in_err-put_row_line-clause-part
@@ -15,7 +15,7 @@ returns-in_err-put_row_line-clause-part g c =
     let next : i + 1 ≡ suc i = omega arith in
     let front = subst (λ (rest : List ℕ). AddsFront (g.K.Sink.taken c.args.k.now)
     (g.K.Sink.taken c.loop-row.k) rest (lines_from line 0 count))
-    (line_then line i (i + 1) (count - i) (count - (i + 1)) more next) c.loop-row.invariant.front in
+    (lines_next line i (i + 1) (count - i) (count - (i + 1)) more next) c.loop-row.invariant.front in
     at_refusal c.from_residual.result
     (adds_part_as (ap (lines_from line 0) c.row_count-count.ensures) (front_part (line i)
     (lines_from line (i + 1) (count - (i + 1))) front c.in_err-put_row_line.ensures.part))
@@ -29,7 +29,7 @@ loop-row-preserved g c =
     let next : i + 1 ≡ suc i = omega arith in
     let front = subst (λ (rest : List ℕ). AddsFront (g.K.Sink.taken c.args.k.now)
     (g.K.Sink.taken c.loop-row.k) rest (lines_from line 0 count))
-    (line_then line i (i + 1) (count - i) (count - (i + 1)) more next) c.loop-row.invariant.front in
+    (lines_next line i (i + 1) (count - i) (count - (i + 1)) more next) c.loop-row.invariant.front in
     record {
       front = front_next (line i)
           (lines_from line (i + 1) (count - (i + 1))) front c.in_ok-put_row_line.ensures.whole;
@@ -40,5 +40,5 @@ pub returns-clause-whole : goal.returns-clause-whole
 returns-clause-whole g c =
     let line : ℕ → List ℕ = row_line c.args.net.now c.args.active c.args.selected c.args.mux in
     let none : c.row_count-count.result - c.loop-row.row ≡ 0 = omega (arith, c.loop-row-test.false) in
-    adds_as (ap (lines_from line 0) c.row_count-count.ensures) (all_lines line c.loop-row.row
+    adds_as (ap (lines_from line 0) c.row_count-count.ensures) (lines_done line c.loop-row.row
     (c.row_count-count.result - c.loop-row.row) none c.loop-row.invariant.front)
