@@ -31,7 +31,7 @@ pub(crate) fn reset_select(alloc: Global, net: &Net, select: &[BitId]) -> Result
     let mut bits = Bits::zeros(alloc, 0)?;
     for bit in select {
         let reg = at(net.regs.as_slice(), bit.reg as usize)?;
-        push_bit(&mut bits, bit_at(&reg.reset.value, bit.pos)?)?;
+        push_bit(&mut bits, bit_at(reg.reset.value.bits(), bit.pos)?)?;
     }
     Ok(bits)
 }

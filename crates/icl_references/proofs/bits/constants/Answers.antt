@@ -28,5 +28,6 @@ pub returns : goal.returns
 returns c =
     let t = c.args.bits.now in
     let e = tern_length t in
-    c.loop-k.invariant.items ∙ ap (map (λ b. Fixed (flip_if c.args.inverted (unwrap_or b false))))
+    c.into_list.ensures ∙ c.loop-k.invariant.items ∙ ap (map (λ b. Fixed (flip_if c.args.inverted (unwrap_or
+    b false))))
     (take_all c.loop-k.k (tern_bits t) (omega (arith, e, c.len-k-end.ensures.value, c.loop-k-test.false)))
