@@ -16,7 +16,7 @@ returns-in-Ok-clause-moves c =
     let cells = seen_cells_of c.args.world.now in
     let line = seen_line c.args.line.now in
     let does = subst (λ (n : ℕ). Does procs cells n line.at (seen_frame c.args.top).frame line.what
-    c.in-Ok.act) (c.len.ensures ∙ c.args.stack.now.ok.0) c.in-Ok.ensures.move_by_act in
+    c.in-Ok.act) (c.len.ensures ∙ c.args.stack.now.ok.0) c.in-Ok.ensures.done in
     c.move_by_act.ensures.moves procs cells line c.args.count.now (omega (arith, c.if-count-ge100000.false))
     (ap (map seen_line) c.requires.lines) does
     (is_at line.at (length c.args.world.now.cells) c.in-Ok.act c.in-Ok.ensures.there)
