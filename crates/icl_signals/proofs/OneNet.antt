@@ -29,11 +29,11 @@ use Rattle.net_graph.specs.declared.net.Net.{Net}
 -- ---- numbers with open bits
 
 -- the bits that count, and 0 where a bit is open
-values_of : OpenBits → List Bool
+abbrev values_of : OpenBits → List Bool
 values_of bits = map (λ bit. unwrap_or bit false) bits
 
 -- which bits count
-cares_of : OpenBits → List Bool
+abbrev cares_of : OpenBits → List Bool
 cares_of bits = map is_some bits
 
 as_long : (bits : OpenBits) → length (values_of bits) ≡ length (cares_of bits)
@@ -47,7 +47,7 @@ open_are_zero (None ∷ bits) zero e = refl
 open_are_zero (Some bit ∷ bits) zero e = absurd (true≢false e)
 open_are_zero (bit ∷ bits) (suc k) e = open_are_zero bits k e
 
-tern_of : OpenBits → Tern
+abbrev tern_of : OpenBits → Tern
 tern_of bits = record {
   value = full (values_of bits);
   care = full (cares_of bits);
@@ -104,10 +104,10 @@ bits_back (Some bit ∷ bits) = ap (λ l. Some bit ∷ l) (bits_back bits)
 
 -- ---- the network of a view
 
-word_of : Word → Listed ℕ × Tern
+abbrev word_of : Word → Listed ℕ × Tern
 word_of w = (full w.name, tern_of w.value)
 
-register_of : RegisterOf → Reg
+abbrev register_of : RegisterOf → Reg
 register_of r = record {
   width = r.width;
   from = r.from;
@@ -116,26 +116,26 @@ register_of r = record {
   thing = r.thing;
 }
 
-row_of : RowOf → Row
+abbrev row_of : RowOf → Row
 row_of r = record { values = full (map tern_of r.values); from = r.from }
 
-mux_of : MuxOf → Mux
+abbrev mux_of : MuxOf → Mux
 mux_of m =
     record { select = full m.select; rows = full (map row_of m.rows); node = m.node; name = full m.name }
 
-input_of : InputOf → PortIn
+abbrev input_of : InputOf → PortIn
 input_of p = record { name = full p.name; bits = full p.bits }
 
-output_of : OutputOf → PortOut
+abbrev output_of : OutputOf → PortOut
 output_of p = record { name = full p.name; width = p.width }
 
-inst_of : InstrumentOf → Inst
+abbrev inst_of : InstrumentOf → Inst
 inst_of i = record { node = i.node; ins = full (map input_of i.ins); outs = full (map output_of i.outs) }
 
-node_of : NodeOf → Node
+abbrev node_of : NodeOf → Node
 node_of n = record { path = full (map full n.path); «module» = full n.module_name }
 
-thing_of : ThingOf → Thing
+abbrev thing_of : ThingOf → Thing
 thing_of t = record {
   node = t.node;
   name = full t.name;
@@ -210,6 +210,7 @@ thing_seen t = λ i. record {
 }
 
 pub view_back : (of : NetOf) → seen_net (net_of of) ≡ of
+unfolding net_of
 view_back of = λ i. record {
   regs = all_back register_of seen_reg register_seen of.regs i;
   muxes = all_back mux_of seen_mux mux_seen of.muxes i;
@@ -269,6 +270,7 @@ thing_back t = λ i. record {
 }
 
 net_back : (n : Net) → net_of (seen_net n) ≡ n
+unfolding net_of
 net_back n = λ i. record {
   regs = full (all_back seen_reg register_of register_back n.regs.items i);
   muxes = full (all_back seen_mux mux_of mux_back n.muxes.items i);
