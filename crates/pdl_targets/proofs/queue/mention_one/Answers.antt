@@ -14,4 +14,4 @@ returns-clause-numbered c =
     (c.mark_next.ensures.numbered (first_bits rs) c.requires.numbered
     (length-map rs first_bit ∙ sym c.len.ensures)
     (registers_differ rs c.args.bit.reg
-    (sym (c.if-is_in.ensures ∙ ap (λ l. is_in l c.args.bit.reg) c.as_slice.ensures))))
+    (sym (c.if-is_marked_register.ensures ∙ ap (λ l. is_in l c.args.bit.reg) c.as_slice.ensures))))

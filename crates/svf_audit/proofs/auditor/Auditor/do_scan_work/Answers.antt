@@ -11,8 +11,8 @@ use Rattle.svf_audit.proofs.Going.{kept_looks}
 use Rattle.svf_audit.proofs.Scanning.{act_does, act_silent, if_err, on_ok, silent_as, stops_as}
 use Rattle.svf_audit.proofs.auditor.Auditor.do_scan_work.Goals as goal
 
-pub returns-then-not-acts-clause-ok : goal.returns-then-not-acts-clause-ok
-returns-then-not-acts-clause-ok c =
+pub returns-then-not-acts_on_data-clause-ok : goal.returns-then-not-acts_on_data-clause-ok
+returns-then-not-acts_on_data-clause-ok c =
     let a = c.args.self.now in
     let x = seen_scan c.args.scan.now in
     let looks : list_any is_some (looked_for c.args.kept.now x.tdo) ≡ compares (played (seen_last a.dr) x) =
@@ -21,8 +21,10 @@ returns-then-not-acts-clause-ok c =
       rs,
       n,
       act_silent a.registers.net.now a.device.now (state_of a rs) x a.registers.after (silent_as
-          a.registers c.requires.shifted c.acts.result (list_any is_some (looked_for c.args.kept.now x.tdo))
-          (compares (played (seen_last a.dr) x)) looks c.acts.ensures ∙ ap not c.if-not-acts.true),
+          a.registers c.requires.shifted c.acts_on_data.result (list_any is_some (looked_for c.args.kept.now
+          x.tdo))
+          (compares (played (seen_last a.dr) x)) looks c.acts_on_data.ensures ∙ ap not
+          c.if-not-acts_on_data.true),
     )
 
 pub returns-clause-ok : goal.returns-clause-ok
@@ -36,8 +38,10 @@ returns-clause-ok c =
       d.0,
       d.1,
       act_does a.registers.net.now a.device.now (state_of a rs) x a.registers.after (silent_as
-          a.registers c.requires.shifted c.acts.result (list_any is_some (looked_for c.args.kept.now x.tdo))
-          (compares (played (seen_last a.dr) x)) looks c.acts.ensures ∙ ap not c.if-not-acts.false) ∙ d.2,
+          a.registers c.requires.shifted c.acts_on_data.result (list_any is_some (looked_for c.args.kept.now
+          x.tdo))
+          (compares (played (seen_last a.dr) x)) looks c.acts_on_data.ensures ∙ ap not
+          c.if-not-acts_on_data.false) ∙ d.2,
     ))
     c.do_group.ensures.ok
 
@@ -52,6 +56,6 @@ returns-clause-err c =
     (stops_as (λ net device s. do_group net device s x a.registers.after) (λ net device s. do_scan_work net
     device
     s x a.registers.after) a (λ rs cause e. act_does a.registers.net.now a.device.now
-    (state_of a rs) x a.registers.after (silent_as a.registers c.requires.shifted c.acts.result
+    (state_of a rs) x a.registers.after (silent_as a.registers c.requires.shifted c.acts_on_data.result
     (list_any is_some (looked_for c.args.kept.now x.tdo)) (compares (played (seen_last a.dr) x)) looks
-    c.acts.ensures ∙ ap not c.if-not-acts.false) ∙ e)) c.do_group.ensures.err
+    c.acts_on_data.ensures ∙ ap not c.if-not-acts_on_data.false) ∙ e)) c.do_group.ensures.err
