@@ -6,6 +6,6 @@ use Rattle.icl_signals.proofs.copies.all_open.Goals as goal
 
 pub returns : goal.returns
 returns c =
-    ap (λ v. open_bits v c.in_ok-care.care.items) c.in_ok-value.ensures
-    ∙ ap (open_bits (replicate c.args.width false)) c.in_ok-care.ensures
+    ap (λ v. open_bits v c.from-2.result.items) (c.from.ensures ∙ c.in_ok-value.ensures)
+    ∙ ap (open_bits (replicate c.args.width false)) (c.from-2.ensures ∙ c.in_ok-care.ensures)
     ∙ all_open c.args.width
