@@ -10,7 +10,7 @@ ghost use Rattle.ijtag_stages.specs.Follows.{Follows, IsToldAs};
 
 use crate::refusal::{Stage, StageFault, refused_at, refused_names};
 use icl_elab::Hier;
-use icl_signals::{ConnectFault, connect, nets_are_well_formed};
+use icl_signals::{ConnectFault, connect};
 use net_graph::{Device, Net};
 use std::alloc::Global;
 
@@ -38,7 +38,6 @@ pub fn connect_hierarchy(alloc: Global, hier: &Hier, device: &Device) -> Result<
     ensures follows { Follows (connected (seen_hier hier.now) device.now) (λ net. net) result }
     ensures well_formed { IfOk result (λ net. IsHierarchy (seen_hier hier.now) → IsNet net) }
 {
-    nets_are_well_formed();
     match connect(alloc, hier, &device.link, &device.instr) {
         Ok(net) => Ok(net),
         Err(fault) => Err(refusal_of(alloc, fault)),
