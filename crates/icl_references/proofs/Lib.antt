@@ -8,3 +8,4 @@ pub mod Steps
 pub mod Digits
 pub mod RowWidths
 pub mod Overlapping
+pub mod RefRuns

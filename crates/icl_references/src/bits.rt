@@ -1,5 +1,5 @@
 // The bits that signals name.
-ghost use Rattle.std.specs.Prelude.{◌≡◌, ◌++◌, map, IfOk, OnOk};
+ghost use Rattle.std.specs.Prelude.{◌≡◌, map, IfOk};
 ghost use Rattle.ij_bits.specs.BitLists.{flip_if};
 ghost use Rattle.ij_text.specs.Numbers.{tern_bits};
 ghost use Rattle.icl_declarations.specs.Widths.{joined};
@@ -9,7 +9,8 @@ ghost use Rattle.icl_references.specs.Signals.{constants};
 
 use crate::hier::Ref;
 use icl_frames::Stretch;
-use ij_bits::{Buffer, List, OutOfMemory, Tern};
+use ij_bits::{OutOfMemory, Tern};
+use ij_runs::Runs;
 use ij_text::bit_at;
 use std::alloc::Global;
 
@@ -20,22 +21,24 @@ pub(crate) fn bits_between(
     part: u32,
     inverted: bool,
     s: Stretch,
-) -> Result<List<Ref>, OutOfMemory>
+) -> Result<Runs<Ref>, OutOfMemory>
     ensures { IfOk result (λ refs. refs.items ≡ map (λ pos. Ref.Bit cell part pos inverted) (positions s)) }
 {
-    let mut refs = Buffer::new(alloc);
     let end = u64::from(s.high) + 1;
-    let count = end.saturating_sub(u64::from(s.low));
-    refs.reserve(count as usize)?;
-    for k in 0..count {
-        refs.push_reserved(Ref::Bit {
+    let Ok(count) = u32::try_from(end.saturating_sub(u64::from(s.low))) else {
+        return Err(OutOfMemory);
+    };
+    let mut refs = Runs::new(alloc);
+    refs.push_run(
+        Ref::Bit {
             cell,
             part,
-            pos: s.low + k as u32,
+            pos: s.low,
             inverted,
-        });
-    }
-    Ok(refs.into_list())
+        },
+        count,
+    )?;
+    Ok(refs)
 }
 
 /// A bit, inverted or not.
@@ -50,37 +53,25 @@ pub(crate) fn constants(
     alloc: Global,
     inverted: bool,
     bits: &Tern,
-) -> Result<List<Ref>, OutOfMemory>
+) -> Result<Runs<Ref>, OutOfMemory>
     ensures { IfOk result (λ refs. refs.items ≡ constants inverted (tern_bits bits.now)) }
 {
-    let mut refs = Buffer::new(alloc);
-    refs.reserve(bits.len() as usize)?;
+    let mut refs = Runs::new(alloc);
     for k in 0..bits.len() {
         let bit = bit_at(bits, k).unwrap_or(false);
-        refs.push_reserved(Ref::Fixed(flip_if(inverted, bit)));
+        refs.push(Ref::Fixed(flip_if(inverted, bit)))?;
     }
-    Ok(refs.into_list())
-}
-
-/// Adds bits at the far end.
-fn append(refs: &mut Buffer<Ref>, more: &List<Ref>) -> Result<(), OutOfMemory>
-    ensures { OnOk result (refs.new.items ≡ refs.old.items ++ more.now.items) }
-{
-    refs.reserve(more.len())?;
-    for r in more.as_slice() {
-        refs.push_reserved(*r);
-    }
-    Ok(())
+    Ok(refs)
 }
 
 /// Signals side by side, the leftmost first: position 0 is in the last one.
-pub(crate) fn side_by_side(alloc: Global, parts: &[List<Ref>]) -> Result<List<Ref>, OutOfMemory>
+pub(crate) fn side_by_side(alloc: Global, parts: &[Runs<Ref>]) -> Result<Runs<Ref>, OutOfMemory>
     ensures { IfOk result (λ refs. refs.items ≡ joined (map seen_refs parts.now)) }
 {
-    let mut refs = Buffer::new(alloc);
+    let mut refs = Runs::new(alloc);
     let n = parts.len();
     for i in 0..n {
-        append(&mut refs, &parts[n - 1 - i])?;
+        refs.append(&parts[n - 1 - i])?;
     }
-    Ok(refs.into_list())
+    Ok(refs)
 }

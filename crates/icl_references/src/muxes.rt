@@ -16,6 +16,7 @@ use crate::tables::Tables;
 use icl_declarations::{ElabFault, value_in};
 use icl_lexer::{Expr, MuxRow, OneOrMore, Sig};
 use ij_bits::{List, Tern};
+use ij_runs::Runs;
 use ij_text::Place;
 use std::alloc::Global;
 
@@ -81,7 +82,7 @@ fn rows_in(
 }
 
 /// How many bits select a row.
-fn select_width(select: &List<Ref>) -> Result<u32, ElabFault>
+fn select_width(select: &Runs<Ref>) -> Result<u32, ElabFault>
     ensures { Gives same result (Ok (length select.now.items)) }
 {
     match u32::try_from(select.len()) {

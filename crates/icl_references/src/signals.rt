@@ -24,7 +24,7 @@ use crate::values::number_bits;
 use icl_declarations::{ElabFault, evaluate, fault_place};
 use icl_frames::{Bounds, indices, is_register, named_positions};
 use icl_lexer::{Expr, Range, Sig, SigWhat, SmallText};
-use ij_bits::List;
+use ij_runs::Runs;
 use ij_text::Place;
 use std::alloc::Global;
 
@@ -145,7 +145,7 @@ fn data_path(
     inverted: bool,
     path: &[SmallText],
     range: &Option<Range>,
-) -> Result<List<Ref>, ElabFault>
+) -> Result<Runs<Ref>, ElabFault>
     requires { IsHere tables.now here }
     ensures { Gives seen_refs result (data_path (frames_of tables.now) (here_in tables.now here) at inverted
         (map bytes_of path.now) (option_map seen_range range.now)) }
@@ -168,7 +168,7 @@ fn data_number(
     wanted: Option<u32>,
     sig: &Sig,
     e: &Expr,
-) -> Result<List<Ref>, ElabFault>
+) -> Result<Runs<Ref>, ElabFault>
     requires { IsHere tables.now here }
     ensures { Gives seen_refs result (data_meant (frames_of tables.now)
         (here_in tables.now here) holder wanted sig.now.at sig.now.inverted (ANumber (seen_expr e.now))) }
@@ -188,7 +188,7 @@ fn data_signal(
     holder: Place,
     wanted: Option<u32>,
     sig: &Sig,
-) -> Result<List<Ref>, ElabFault>
+) -> Result<Runs<Ref>, ElabFault>
     requires { IsHere tables.now here }
     ensures { Gives seen_refs result
         (data_signal (frames_of tables.now) (here_in tables.now here) holder wanted (seen_sig sig.now)) }
@@ -215,7 +215,7 @@ fn data_parts(
     holder: Place,
     wanted: Option<u32>,
     sigs: &[Sig],
-) -> Result<Vec<List<Ref>>, ElabFault>
+) -> Result<Vec<Runs<Ref>>, ElabFault>
     requires { IsHere tables.now here }
     ensures { Gives (λ parts. map seen_refs parts.items) result (each (data_signal (frames_of tables.now)
         (here_in tables.now here) holder wanted) (map seen_sig sigs.now)) }
@@ -236,7 +236,7 @@ fn lone_width(width: u32, sigs: &[Sig]) -> Option<u32>
 }
 
 /// Bits, if there are as many as are wanted.
-fn require_width(holder: Place, width: u32, refs: List<Ref>) -> Result<List<Ref>, ElabFault>
+fn require_width(holder: Place, width: u32, refs: Runs<Ref>) -> Result<Runs<Ref>, ElabFault>
     ensures { Gives seen_refs result (require_width holder width refs.items) }
 {
     if refs.len() == width as usize {
@@ -257,7 +257,7 @@ pub fn data_signals(
     holder: Place,
     width: u32,
     sigs: &[Sig],
-) -> Result<List<Ref>, ElabFault>
+) -> Result<Runs<Ref>, ElabFault>
     requires { IsHere tables.now here }
     ensures { Gives seen_refs result
         (data_signals (frames_of tables.now) (here_in tables.now here) holder width (map seen_sig sigs.now)) }
@@ -276,7 +276,7 @@ pub fn select_signals(
     here: u32,
     holder: Place,
     sigs: &[Sig],
-) -> Result<List<Ref>, ElabFault>
+) -> Result<Runs<Ref>, ElabFault>
     requires { IsHere tables.now here }
     ensures { Gives seen_refs result
         (select_signals (frames_of tables.now) (here_in tables.now here) holder (map seen_sig sigs.now)) }
@@ -297,7 +297,7 @@ fn alias_path(
     inverted: bool,
     path: &[SmallText],
     range: &Option<Range>,
-) -> Result<List<Ref>, ElabFault>
+) -> Result<Runs<Ref>, ElabFault>
     requires { IsHere tables.now here }
     ensures { Gives seen_refs result (alias_path (frames_of tables.now) (here_in tables.now here) at inverted
         (map bytes_of path.now) (option_map seen_range range.now)) }
@@ -317,7 +317,7 @@ fn alias_signal(
     tables: &Tables,
     here: u32,
     sig: &Sig,
-) -> Result<List<Ref>, ElabFault>
+) -> Result<Runs<Ref>, ElabFault>
     requires { IsHere tables.now here }
     ensures { Gives seen_refs result (alias_meant (frames_of tables.now)
         (here_in tables.now here) sig.now.at sig.now.inverted (seen_sig_what sig.now.what)) }
@@ -342,7 +342,7 @@ fn alias_parts(
     tables: &Tables,
     here: u32,
     sigs: &[Sig],
-) -> Result<Vec<List<Ref>>, ElabFault>
+) -> Result<Vec<Runs<Ref>>, ElabFault>
     requires { IsHere tables.now here }
     ensures { Gives (λ parts. map seen_refs parts.items) result (each (λ s. alias_meant (frames_of tables.now)
         (here_in tables.now here) s.at s.inverted s.what) (map seen_sig sigs.now)) }
@@ -365,7 +365,7 @@ pub fn alias_signals(
     holder: Place,
     width: u32,
     sigs: &[Sig],
-) -> Result<List<Ref>, ElabFault>
+) -> Result<Runs<Ref>, ElabFault>
     requires { IsHere tables.now here }
     ensures { Gives seen_refs result (alias_signals (frames_of tables.now)
         (here_in tables.now here) holder width (map seen_sig sigs.now)) }

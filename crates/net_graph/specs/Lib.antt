@@ -19,6 +19,7 @@ pub mod OneRegister
 pub mod MarkLaws
 -- how the code goes
 pub mod Spotted
+pub mod SpotRuns
 pub mod Tracing
 pub mod Selects
 pub mod Marks

@@ -1,60 +1,154 @@
 // The bits of a named thing.
-ghost use Rattle.std.specs.Prelude.{◌≡◌, ◌+◌, ◌-◌, ◌^◌, ◌<◌, ◌≤◌, [], ◌∷◌, ◌++◌, length, replicate, take};
-ghost use Rattle.std.specs.Prelude.{drop, get_or, slice_index_or, IsTrue, OnOk, OnErr};
+ghost use Rattle.std.specs.Prelude.{◌≡◌, ◌+◌, ◌<◌, ◌≤◌, [], ◌++◌, length, take, drop, get_or, IsTrue};
+ghost use Rattle.std.specs.Prelude.{OnOk, OnErr};
+ghost use Rattle.ij_runs.specs.Runs.{following};
 ghost use Rattle.net_graph.specs.declared.net.Spot.{Spot as ASpot};
-ghost use Rattle.net_graph.specs.Spotted.{spotted};
+ghost use Rattle.net_graph.specs.SpotRuns.{bit_after, sig_after, sig_room, spot_after, spot_room, none_after};
+ghost use Rattle.net_graph.specs.SpotRuns.{both_after};
 
-use crate::net::{Sig, Spot};
-use ij_bits::{Buffer, List, OutOfMemory};
+use crate::net::{BitId, Sig, Spot};
+use ij_bits::OutOfMemory;
+use ij_runs::{Follow, Runs};
 use std::alloc::Global;
 use std::marker::Model;
 
-/// The bits of a named thing, position 0 first, fewer than 2^32. A port that nothing drives and that drives
-/// nothing takes the memory of one bit, however wide it is.
+/// The bits of a named thing, position 0 first, fewer than 2^32. A bit that follows the one before it takes
+/// no memory, so a port takes as much as it has sources, however wide it is.
 ///
 /// Contracts see a record: `items`, the bits.
 #[derive(Drop)]
 pub struct Spots {
-    /// The first bits.
-    first: Buffer<Spot>,
-    /// What each bit after them is.
-    last: Spot,
-    /// How many bits there are.
-    len: u32,
+    runs: Runs<Spot>,
 }
 
 impl Model for Spots {
-    ghost use Rattle.std.specs.Prelude.{◌≤◌, length};
-    ghost use Rattle.net_graph.specs.Spotted.{Spotted, spotted};
+    ghost use Rattle.net_graph.specs.Spotted.{Spotted};
 
     ghost Value = { Spotted };
 
-    ghost view = { λ s. record { items = spotted s.first.items s.last s.len } };
-
-    ghost invariant = { λ s. length s.first.items ≤ s.len };
+    ghost view = { λ s. record { items = s.runs.items } };
 }
 
-/// Whether two bits are one and the same port's that has no source.
-fn are_both_absent(a: Spot, b: Spot) -> bool
-    ensures { IsTrue result → a ≡ b }
+/// The signal this many positions after one.
+fn sig_after(sig: Sig, n: u32) -> Sig
+    requires { n ≤ sig_room sig }
+    ensures { result ≡ sig_after n sig }
 {
-    matches!(
-        (a, b),
-        (Spot::Inward(Sig::Absent), Spot::Inward(Sig::Absent))
-            | (Spot::Outward(Sig::Absent), Spot::Outward(Sig::Absent))
-    )
-}
-
-/// Adds one bit this many times. After a refusal the list is as it was.
-fn push_same(first: &mut Buffer<Spot>, spot: Spot, count: u32) -> Result<(), OutOfMemory>
-    ensures ok { OnOk result (first.new.items ≡ first.old.items ++ replicate count spot) }
-    ensures err { OnErr result (first.new.items ≡ first.old.items) }
-{
-    first.reserve(count as usize)?;
-    for _i in 0..count {
-        first.push_reserved(spot);
+    match sig {
+        Sig::Absent | Sig::Zero | Sig::One => sig,
+        Sig::Bit { bit, inverted } => Sig::Bit {
+            bit: BitId {
+                reg: bit.reg,
+                pos: bit.pos + n,
+            },
+            inverted,
+        },
+        Sig::Out {
+            inst,
+            port,
+            pos,
+            inverted,
+        } => Sig::Out {
+            inst,
+            port,
+            pos: pos + n,
+            inverted,
+        },
     }
-    Ok(())
+}
+
+/// Whether a signal is the one this many positions after one.
+fn is_sig_after(sig: Sig, n: u32, other: Sig) -> bool
+    ensures { IsTrue result → other ≡ sig_after n sig }
+{
+    match (sig, other) {
+        (Sig::Absent, Sig::Absent) | (Sig::Zero, Sig::Zero) | (Sig::One, Sig::One) => true,
+        (
+            Sig::Bit { bit, inverted },
+            Sig::Bit {
+                bit: other,
+                inverted: turned,
+            },
+        ) => inverted == turned && is_bit_after(bit, n, other),
+        (
+            Sig::Out {
+                inst,
+                port,
+                pos,
+                inverted,
+            },
+            Sig::Out {
+                inst: other,
+                port: by,
+                pos: at,
+                inverted: turned,
+            },
+        ) => inst == other && port == by && inverted == turned && is_number_after(pos, n, at),
+        _ => false,
+    }
+}
+
+/// Whether a number is this many above one.
+fn is_number_after(from: u32, n: u32, other: u32) -> bool
+    ensures { IsTrue result → other ≡ from + n }
+{
+    from <= other && other - from == n
+}
+
+/// Whether a bit is this many positions after one.
+fn is_bit_after(bit: BitId, n: u32, other: BitId) -> bool
+    ensures { IsTrue result → other ≡ bit_after n bit }
+{
+    bit.reg == other.reg && is_number_after(bit.pos, n, other.pos)
+}
+
+/// Whether this many positions can be counted after a signal's.
+fn sig_reaches(sig: Sig, n: u32) -> bool
+    ensures { IsTrue result → n ≤ sig_room sig }
+{
+    match sig {
+        Sig::Absent | Sig::Zero | Sig::One => true,
+        Sig::Bit { bit, .. } => n <= u32::MAX - bit.pos,
+        Sig::Out { pos, .. } => n <= u32::MAX - pos,
+    }
+}
+
+/// After a bit comes the one at the next position, after a constant or no source the same one.
+impl Follow for Spot {
+    ghost after = { spot_after };
+
+    ghost room = { spot_room };
+
+    ghost stays = { none_after };
+
+    ghost composes = { both_after };
+
+    fn after(self, n: u32) -> Spot {
+        match self {
+            Spot::Held(bit) => Spot::Held(BitId {
+                reg: bit.reg,
+                pos: bit.pos + n,
+            }),
+            Spot::Inward(sig) => Spot::Inward(sig_after(sig, n)),
+            Spot::Outward(sig) => Spot::Outward(sig_after(sig, n)),
+        }
+    }
+
+    fn reaches(self, n: u32) -> bool {
+        match self {
+            Spot::Held(bit) => n <= u32::MAX - bit.pos,
+            Spot::Inward(sig) | Spot::Outward(sig) => sig_reaches(sig, n),
+        }
+    }
+
+    fn is_after(self, n: u32, value: Spot) -> bool {
+        match (self, value) {
+            (Spot::Held(bit), Spot::Held(other)) => is_bit_after(bit, n, other),
+            (Spot::Inward(sig), Spot::Inward(other)) => is_sig_after(sig, n, other),
+            (Spot::Outward(sig), Spot::Outward(other)) => is_sig_after(sig, n, other),
+            _ => false,
+        }
+    }
 }
 
 impl Spots {
@@ -63,9 +157,7 @@ impl Spots {
         ensures { result.items ≡ [] }
     {
         Spots {
-            first: Buffer::new(alloc),
-            last: Spot::Outward(Sig::Absent),
-            len: 0,
+            runs: Runs::new(alloc),
         }
     }
 
@@ -73,24 +165,19 @@ impl Spots {
     pub fn len(&self) -> u32
         ensures { result ≡ length self.now.items }
     {
-        self.len
+        self.runs.len() as u32
     }
 
-    /// Adds a bit. After a refusal the bits are as they were.
-    pub fn push(&mut self, spot: Spot) -> Result<(), OutOfMemory>
-        ensures ok { OnOk result (self.new.items ≡ self.old.items ++ spot ∷ []) }
+    /// Adds a bit and those after it, `count` in all. After a refusal the bits are as they were.
+    ///
+    /// # Errors
+    ///
+    /// `OutOfMemory`, also where so many can't follow the bit, or there would be more than 32 bits count.
+    pub fn push_run(&mut self, first: Spot, count: u32) -> Result<(), OutOfMemory>
+        ensures ok { OnOk result (self.new.items ≡ self.old.items ++ following spot_after first count) }
         ensures err { OnErr result (self.new.items ≡ self.old.items) }
     {
-        let Some(len) = self.len.checked_add(1) else {
-            return Err(OutOfMemory);
-        };
-        if !are_both_absent(self.last, spot) {
-            let count = self.len - self.first.len() as u32;
-            push_same(&mut self.first, self.last, count)?;
-            self.last = spot;
-        }
-        self.len = len;
-        Ok(())
+        self.runs.push_run(first, count)
     }
 
     /// The bit at a position. Takes no memory.
@@ -98,11 +185,7 @@ impl Spots {
         requires { i < length self.now.items }
         ensures { (any : ASpot) → result ≡ get_or self.now.items i any }
     {
-        if (i as usize) < self.first.len() {
-            *self.first.get(i as usize)
-        } else {
-            self.last
-        }
+        self.runs.get(i as usize)
     }
 
     /// All bits. Takes no memory.

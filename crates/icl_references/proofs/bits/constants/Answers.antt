@@ -14,20 +14,17 @@ loop-k-preserved c =
     let t = c.args.bits.now in
     let e = tern_length t in
     let f = λ (b : Option Bool). Fixed (flip_if c.args.inverted (unwrap_or b false)) in
-    record {
-      items = c.push_reserved.ensures.items
-          ∙ ap (λ (l : List Ref). l ++ Fixed c.flip_if.result ∷ []) c.loop-k.invariant.items
-          ∙ ap (λ (b : Bool). map f (take c.loop-k.k (tern_bits t)) ++ Fixed b ∷ [])
-          (c.flip_if.ensures ∙ ap (flip_if c.args.inverted) c.unwrap_or-bit.ensures)
-          ∙ sym (mapped_more f (tern_bits t) c.loop-k.k c.bit_at.result (Some false)
-          (omega (arith, e, c.len-k-end.ensures.value, c.loop-k-test.true)) c.bit_at.ensures);
-      room = omega (arith, c.push_reserved.ensures.spare, c.loop-k.invariant.room);
-    }
+    c.in_ok-push.ensures.ok
+    ∙ ap (λ (l : List Ref). l ++ Fixed c.flip_if.result ∷ []) c.loop-k.invariant
+    ∙ ap (λ (b : Bool). map f (take c.loop-k.k (tern_bits t)) ++ Fixed b ∷ [])
+    (c.flip_if.ensures ∙ ap (flip_if c.args.inverted) c.unwrap_or-bit.ensures)
+    ∙ sym (mapped_more f (tern_bits t) c.loop-k.k c.bit_at.result (Some false)
+    (omega (arith, e, c.len-k-end.ensures.value, c.loop-k-test.true)) c.bit_at.ensures)
 
 pub returns : goal.returns
 returns c =
     let t = c.args.bits.now in
     let e = tern_length t in
-    c.into_list.ensures ∙ c.loop-k.invariant.items ∙ ap (map (λ b. Fixed (flip_if c.args.inverted (unwrap_or
+    c.loop-k.invariant ∙ ap (map (λ b. Fixed (flip_if c.args.inverted (unwrap_or
     b false))))
     (take_all c.loop-k.k (tern_bits t) (omega (arith, e, c.len-k-end.ensures.value, c.loop-k-test.false)))

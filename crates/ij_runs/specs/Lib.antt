@@ -1,0 +1,2 @@
+-- the meaning
+pub mod Runs
