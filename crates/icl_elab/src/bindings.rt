@@ -19,7 +19,8 @@ use icl_declarations::ElabFault;
 use icl_frames::{Stretch, is_data_in_port, is_input, is_scan_in_port, named_positions, width};
 use icl_lexer::{Bind, Range, Sig, SmallText, What};
 use icl_references::{Member, Ref, Tables, control_signals, data_signals, scan_signal};
-use ij_bits::{Buffer, List, OutOfMemory};
+use ij_bits::OutOfMemory;
+use ij_runs::Runs;
 use ij_text::{Place, name_of};
 use std::alloc::Global;
 use std::marker::Model;
@@ -33,7 +34,7 @@ pub(crate) struct Bound {
     /// The positions.
     pub stretch: Stretch,
     /// What they are bound to.
-    pub refs: List<Ref>,
+    pub refs: Runs<Ref>,
 }
 
 /// The bindings of an instance, in the order of the text. Whether a bit is bound, and to what, is found
@@ -151,7 +152,7 @@ impl Bindings {
         alloc: Global,
         part: u32,
         wide: u32,
-    ) -> Result<Option<List<Ref>>, OutOfMemory>
+    ) -> Result<Option<Runs<Ref>>, OutOfMemory>
         ensures { IfOk result (λ refs. option_map seen_refs refs ≡ refs_of self.now part wide) }
     {
         if !self.binds(part) {
@@ -162,16 +163,14 @@ impl Bindings {
     }
 
     /// What the bits of a port of this width are bound to, position 0 first.
-    fn all_refs(&self, alloc: Global, part: u32, wide: u32) -> Result<List<Ref>, OutOfMemory>
+    fn all_refs(&self, alloc: Global, part: u32, wide: u32) -> Result<Runs<Ref>, OutOfMemory>
         ensures { IfOk result (λ refs. refs.items ≡ map (ref_at self.now part) (range_with_len 0 wide)) }
     {
-        let mut refs = Buffer::new(alloc);
-        let wide = wide as usize;
-        refs.reserve(wide)?;
-        for pos in 0..wide {
-            refs.push_reserved(self.ref_at(part, pos));
+        let mut refs = Runs::new(alloc);
+        for pos in 0..wide as usize {
+            refs.push(self.ref_at(part, pos))?;
         }
-        Ok(refs.into_list())
+        Ok(refs)
     }
 
     /// Whether a part is bound at all of its bits, or at none.
@@ -200,7 +199,7 @@ fn ref_in(bound: &Bound, pos: usize) -> Ref
 {
     let i = pos.saturating_sub(bound.stretch.low as usize);
     if i < bound.refs.len() {
-        *bound.refs.get(i)
+        bound.refs.get(i)
     } else {
         Ref::Fixed(false)
     }
@@ -222,12 +221,12 @@ fn scan_signals(
     tables: &Tables,
     here: u32,
     sigs: &[Sig],
-) -> Result<List<Ref>, ElabFault>
+) -> Result<Runs<Ref>, ElabFault>
     requires { IsHere tables.now here }
     ensures { Gives seen_refs result
         (each (scan_signal (frames_of tables.now) (here_in tables.now here)) (map seen_sig sigs.now)) }
 {
-    let mut refs = List::new(alloc);
+    let mut refs = Runs::new(alloc);
     for sig in sigs {
         let bit = scan_signal(alloc, tables, here, sig)?;
         refs.push(bit)?;
@@ -236,7 +235,7 @@ fn scan_signals(
 }
 
 /// The one bit of a scan port. `WidthDiffers` where there are more, or none.
-fn single_ref(at: Place, refs: List<Ref>) -> Result<List<Ref>, ElabFault>
+fn single_ref(at: Place, refs: Runs<Ref>) -> Result<Runs<Ref>, ElabFault>
     ensures { Gives seen_refs result (single_ref [] nowhere no_frame at refs.items) }
 {
     if refs.len() == 1 {
@@ -266,7 +265,7 @@ fn bound_refs(
     what: &What,
     s: Stretch,
     sigs: &[Sig],
-) -> Result<List<Ref>, ElabFault>
+) -> Result<Runs<Ref>, ElabFault>
     requires { IsHere tables.now here }
     ensures { Gives seen_refs result (bound_refs (frames_of tables.now) (here_in tables.now here) no_frame at
         (seen_what what.now) s (map seen_sig sigs.now)) }
@@ -279,7 +278,7 @@ fn bound_refs(
         data_signals(alloc, tables, here, at, wide, sigs)
     } else {
         control_signals(alloc, tables, here, sigs)?;
-        Ok(List::new(alloc))
+        Ok(Runs::new(alloc))
     }
 }
 

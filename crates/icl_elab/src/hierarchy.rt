@@ -29,6 +29,7 @@ use icl_frames::{Frame, first_pass};
 use icl_lexer::Design;
 use icl_references::{Body, Cell, Hier, Part, Ref, Tables};
 use ij_bits::{List, OutOfMemory};
+use ij_runs::Runs;
 use ij_text::{Name, name_of};
 use std::alloc::Global;
 
@@ -191,13 +192,13 @@ fn part_width(part: &Part) -> Result<u32, ElabFault>
 }
 
 /// The one bit that a scan port is bound to, if it is bound.
-fn first_ref(refs: Option<List<Ref>>) -> Option<Ref>
+fn first_ref(refs: Option<Runs<Ref>>) -> Option<Ref>
     ensures { result ≡ option_map (λ refs. first_ref refs.items) refs }
 {
     match refs {
         Some(refs) => {
             if refs.len() > 0 {
-                Some(*refs.get(0))
+                Some(refs.get(0))
             } else {
                 Some(Ref::Fixed(false))
             }

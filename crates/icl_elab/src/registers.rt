@@ -12,6 +12,7 @@ use icl_declarations::{ElabFault, value_in};
 use icl_lexer::Prop;
 use icl_references::{Body, Member, Ref, Tables, data_signals, scan_signal, width_of};
 use ij_bits::{List, Tern};
+use ij_runs::Runs;
 use ij_text::Name;
 use std::alloc::Global;
 use std::mem::replace;
@@ -20,7 +21,7 @@ use std::mem::replace;
 #[derive(Drop)]
 pub(crate) struct RegisterParts {
     pub scan: Option<Ref>,
-    pub capture: Option<List<Ref>>,
+    pub capture: Option<Runs<Ref>>,
     pub reset: Option<Tern>,
     pub words: List<(Name, Tern)>,
 }

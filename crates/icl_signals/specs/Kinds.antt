@@ -48,29 +48,3 @@ numbers_from kind n (c ∷ cs) = before (is_of kind) n c.parts
 -- the number at a part, 0 for one that isn't there
 abbrev pub number_at : List (List ℕ) → ℕ → ℕ → ℕ
 number_at table cell part = get_or (get_or table cell []) part 0
-
--- ---- places of wired ports' bits
-
--- the bits of a wired port, none of another part
-abbrev pub wired_bits : PartOf → ℕ
-wired_bits p = cond (is_wired p.role) (part_width p) 0
-
--- for each part how many bits of wired ports stand before it, after a number of earlier ones
-abbrev pub bits_before : ℕ → List PartOf → List ℕ
-bits_before n [] = []
-bits_before n (p ∷ ps) = n ∷ bits_before (n + wired_bits p) ps
-
--- how many there are with these parts
-abbrev pub with_bits : ℕ → List PartOf → ℕ
-with_bits n [] = n
-with_bits n (p ∷ ps) = with_bits (n + wired_bits p) ps
-
--- for each part of each cell, how many bits of wired ports stand before it in the whole hierarchy
-abbrev pub places_from : ℕ → List CellOf → List (List ℕ)
-places_from n [] = []
-places_from n (c ∷ cs) = bits_before n c.parts ∷ places_from (with_bits n c.parts) cs
-
--- how many there are with these cells
-abbrev pub all_bits : ℕ → List CellOf → ℕ
-all_bits n [] = n
-all_bits n (c ∷ cs) = all_bits (with_bits n c.parts) cs

@@ -166,12 +166,12 @@ pub(crate) fn input_from(wiring: &Wiring, at: Place, r: Ref) -> Result<Sig, Conn
     }
 }
 
-/// The data signal that a reference leads to, absent where the trace ends nowhere.
-pub(crate) fn signal_from(wiring: &Wiring, at: Place, r: Ref) -> Sig
-    requires { IsWiring wiring.now }
-    ensures { result ≡ or_absent (data_from (cells_of wiring.now) wiring.now.entry at r) }
+/// The data signal that an end is, absent where it is none.
+pub(crate) fn signal_at(wiring: &Wiring, end: End) -> Sig
+    requires wiring { IsWiring wiring.now }
+    requires told { IsTrueEnd (cells_of wiring.now) wiring.now.entry end }
+    ensures { (at : Place) → result ≡ or_absent (data_end (cells_of wiring.now) at end) }
 {
-    let end = trace(wiring, r);
     match end {
         End::AtConstant(b) => constant(b),
         End::AtBit {

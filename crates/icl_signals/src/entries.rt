@@ -10,6 +10,7 @@ ghost use Rattle.icl_signals.specs.Inside.{numbered};
 use crate::parts::{Kind, is_of, width_of};
 use icl_elab::{Cell, Hier, Part, Ref};
 use ij_bits::OutOfMemory;
+use ij_runs::Runs;
 use std::alloc::Global;
 
 /// A part with its number and that of its cell.
@@ -96,19 +97,31 @@ pub(crate) fn own_refs(
     cell: u32,
     part: u32,
     what: &Part,
-) -> Result<Vec<Ref>, OutOfMemory>
+) -> Result<Runs<Ref>, OutOfMemory>
     ensures { IfOk result (λ refs. refs.items
         ≡ own_bits (record { cell = cell; part = part; what = seen_part what.now })) }
 {
     let width = width_of(what)?;
-    let mut refs = Vec::new(alloc);
-    for pos in 0..width {
-        refs.push(Ref::Bit {
+    let mut refs = Runs::new(alloc);
+    refs.push_run(
+        Ref::Bit {
             cell,
             part,
-            pos,
+            pos: 0,
             inverted: false,
-        })?;
-    }
+        },
+        width,
+    )?;
     Ok(refs)
+}
+
+/// Bits one by one. Registers, selects and inputs of instruments have few.
+pub(crate) fn listed(alloc: Global, refs: &Runs<Ref>) -> Result<Vec<Ref>, OutOfMemory>
+    ensures { IfOk result (λ all. all.items ≡ refs.now.items) }
+{
+    let mut all = Vec::new(alloc);
+    for i in 0..refs.len() {
+        all.push(refs.get(i))?;
+    }
+    Ok(all)
 }

@@ -1,20 +1,23 @@
 // Following a signal bit to where its trace ends.
-ghost use Rattle.std.specs.Prelude.{◌≡◌, Bool, false};
+ghost use Rattle.std.specs.Prelude.{◌≡◌, ◌<◌, ◌≤◌, ℕ};
 ghost use Rattle.ij_bits.specs.BitLists.{flip_if};
 ghost use Rattle.icl_references.specs.Roles.{seen_body, seen_refs};
 ghost use Rattle.icl_signals.specs.Wirings.{IsWiring, cells_of};
-ghost use Rattle.icl_signals.specs.TrueEnds.{IsTrueEnd, IsTrueNext, IsConstant, resume};
+ghost use Rattle.icl_references.specs.RefRuns.{ref_after};
+ghost use Rattle.icl_signals.specs.TrueEnds.{IsTrueEnd};
+ghost use Rattle.icl_signals.specs.Alike.{end_after, next_bit, next_ref, wire_after};
 ghost use Rattle.icl_signals.specs.Moves.{driver_of, role_move, one_ref, ref_in, is_instrument_cell};
 ghost use Rattle.icl_signals.specs.Moves.{is_entry};
-ghost use Rattle.icl_signals.specs.Traces.{follow, trace, from_ref, from_move};
+ghost use Rattle.icl_signals.specs.Traces.{follow, trace};
 ghost use Rattle.std.specs.Option.{option_map};
 
+use crate::alike::alike;
 use crate::found::{known_end, turned_end};
 use crate::parts::{is_top, part_at};
 use crate::wires::{Driver, End, Wire};
 use crate::wiring::Wiring;
 use icl_elab::{Body, Ref};
-use ij_bits::List;
+use ij_runs::Runs;
 
 fn one_ref(signal: Option<Ref>) -> Driver
     ensures { result ≡ one_ref signal }
@@ -26,11 +29,17 @@ fn one_ref(signal: Option<Ref>) -> Driver
 }
 
 /// The bit at a position, if there are any.
-fn ref_in(refs: &Option<List<Ref>>, pos: u32) -> Driver
+fn ref_in(refs: &Option<Runs<Ref>>, pos: u32) -> Driver
     ensures { result ≡ ref_in (option_map seen_refs refs.now) pos }
 {
     match refs {
-        Some(refs) => one_ref(refs.as_slice().get(pos as usize).copied()),
+        Some(refs) => {
+            if (pos as usize) < refs.len() {
+                Driver::Another(refs.get(pos as usize))
+            } else {
+                Driver::NothingAtAll
+            }
+        }
         None => Driver::NothingAtAll,
     }
 }
@@ -75,7 +84,7 @@ fn is_instrument_cell(wiring: &Wiring, cell: u32) -> bool
     }
 }
 
-fn is_entry(entry: Wire, wire: Wire) -> bool
+pub(crate) fn is_entry(entry: Wire, wire: Wire) -> bool
     ensures { result ≡ is_entry entry wire }
 {
     wire.cell == entry.cell && wire.part == entry.part
@@ -120,8 +129,7 @@ pub enum NextBit {
 
 /// What a reference, inverted or not, leads to.
 fn follow_ref(inverted: bool, r: Ref) -> NextBit
-    ensures value { (go : Bool → Wire → End) → from_ref go inverted r ≡ resume go result }
-    ensures told { IsConstant result }
+    ensures { result ≡ next_ref inverted r }
 {
     match r {
         Ref::Fixed(b) => NextBit::Ended(End::AtConstant(flipped(inverted, b))),
@@ -137,12 +145,10 @@ fn follow_ref(inverted: bool, r: Ref) -> NextBit
     }
 }
 
-/// One move of a trace.
+/// One move of a trace. Takes no memory.
 pub(crate) fn one_move(wiring: &Wiring, inverted: bool, wire: Wire) -> NextBit
     requires { IsWiring wiring.now }
-    ensures value { (go : Bool → Wire → End) → from_move go inverted wire
-        (driver_of (cells_of wiring.now) wiring.now.entry wire) ≡ resume go result }
-    ensures told { IsTrueNext (cells_of wiring.now) wiring.now.entry result }
+    ensures { result ≡ next_bit inverted wire (driver_of (cells_of wiring.now) wiring.now.entry wire) }
 {
     match next_move(wiring, wire) {
         Driver::Another(r) => follow_ref(inverted, r),
@@ -154,17 +160,35 @@ pub(crate) fn one_move(wiring: &Wiring, inverted: bool, wire: Wire) -> NextBit
     }
 }
 
-/// Where the trace of a bit, inverted or not, ends. Takes no memory.
-fn follow(wiring: &Wiring, inverted: bool, wire: Wire) -> End
-    requires { IsWiring wiring.now }
-    ensures value { result ≡ follow (cells_of wiring.now) wiring.now.entry wiring.now.looks inverted wire }
-    ensures told { IsTrueEnd (cells_of wiring.now) wiring.now.entry result }
+/// Where the traces of bits side by side end, so side by side: the end of the first one, and how many there
+/// are.
+#[derive(Clone, Copy, Drop)]
+pub struct EndRun {
+    /// The end of the first one.
+    pub(crate) end: End,
+    /// How many there are.
+    pub(crate) count: u32,
+}
+
+/// Where the traces of bits side by side end, inverted or not, of so many bits from one on. Takes no memory.
+fn follow(wiring: &Wiring, inverted: bool, wire: Wire, count: u32) -> EndRun
+    requires wiring { IsWiring wiring.now }
+    requires count { 1 ≤ count }
+    ensures some { 1 ≤ result.count }
+    ensures few { result.count ≤ count }
+    ensures value { (k : ℕ) → k < result.count
+        → follow (cells_of wiring.now) wiring.now.entry wiring.now.looks inverted (wire_after k wire)
+        ≡ end_after k result.end }
+    ensures told { (k : ℕ) → k < result.count
+        → IsTrueEnd (cells_of wiring.now) wiring.now.entry (end_after k result.end) }
 {
     let mut inverted = inverted;
     let mut wire = wire;
+    let mut count = count;
     for _look in 0..wiring.looks {
+        count = alike(wiring, wire, count);
         match one_move(wiring, inverted, wire) {
-            NextBit::Ended(end) => return end,
+            NextBit::Ended(end) => return EndRun { end, count },
             NextBit::At {
                 wire: other,
                 inverted: turned,
@@ -174,41 +198,76 @@ fn follow(wiring: &Wiring, inverted: bool, wire: Wire) -> End
             }
         }
     }
-    End::InLoop
-}
-
-/// Where the trace of a bit, inverted or not, ends: as it was found, if it was. Takes no memory.
-fn end_of(wiring: &Wiring, inverted: bool, wire: Wire) -> End
-    requires { IsWiring wiring.now }
-    ensures value { result ≡ follow (cells_of wiring.now) wiring.now.entry wiring.now.looks inverted wire }
-    ensures told { IsTrueEnd (cells_of wiring.now) wiring.now.entry result }
-{
-    match known_end(wiring, wiring.ends.as_slice(), wire) {
-        Some(found) => {
-            if found.looks <= wiring.looks {
-                turned_end(inverted, found.end)
-            } else {
-                follow(wiring, inverted, wire)
-            }
-        }
-        None => follow(wiring, inverted, wire),
+    EndRun {
+        end: End::InLoop,
+        count,
     }
 }
 
-/// Where the trace of a reference ends. Takes no memory.
+/// Where the traces of bits side by side end, inverted or not, of so many bits from one on: as it was found,
+/// if it was. Takes no memory.
+fn ends_from(wiring: &Wiring, inverted: bool, wire: Wire, count: u32) -> EndRun
+    requires wiring { IsWiring wiring.now }
+    requires count { 1 ≤ count }
+    ensures some { 1 ≤ result.count }
+    ensures few { result.count ≤ count }
+    ensures value { (k : ℕ) → k < result.count
+        → follow (cells_of wiring.now) wiring.now.entry wiring.now.looks inverted (wire_after k wire)
+        ≡ end_after k result.end }
+    ensures told { (k : ℕ) → k < result.count
+        → IsTrueEnd (cells_of wiring.now) wiring.now.entry (end_after k result.end) }
+{
+    match known_end(wiring, wiring.ends.as_slice(), wire) {
+        Some(run) => {
+            if run.found.looks <= wiring.looks {
+                EndRun {
+                    end: turned_end(inverted, run.found.end),
+                    count: run.count.min(count),
+                }
+            } else {
+                follow(wiring, inverted, wire, count)
+            }
+        }
+        None => follow(wiring, inverted, wire, count),
+    }
+}
+
+/// Where the traces of a reference and of those after it end, of so many, side by side. Takes no memory.
 #[tactic(auto, unfolding(crate::specs::Traces::trace))]
-pub(crate) fn trace(wiring: &Wiring, r: Ref) -> End
-    requires { IsWiring wiring.now }
-    ensures value { result ≡ trace (cells_of wiring.now) wiring.now.entry r }
-    ensures told { IsTrueEnd (cells_of wiring.now) wiring.now.entry result }
+pub(crate) fn traces(wiring: &Wiring, r: Ref, count: u32) -> EndRun
+    requires wiring { IsWiring wiring.now }
+    requires count { 1 ≤ count }
+    ensures some { 1 ≤ result.count }
+    ensures few { result.count ≤ count }
+    ensures value { (k : ℕ) → k < result.count
+        → trace (cells_of wiring.now) wiring.now.entry (ref_after k r) ≡ end_after k result.end }
+    ensures told { (k : ℕ) → k < result.count
+        → IsTrueEnd (cells_of wiring.now) wiring.now.entry (end_after k result.end) }
 {
     match r {
-        Ref::Fixed(b) => End::AtConstant(b),
+        Ref::Fixed(b) => EndRun {
+            end: End::AtConstant(b),
+            count,
+        },
         Ref::Bit {
             cell,
             part,
             pos,
             inverted,
-        } => end_of(wiring, flipped(inverted, false), Wire { cell, part, pos }),
+        } => ends_from(
+            wiring,
+            flipped(inverted, false),
+            Wire { cell, part, pos },
+            count,
+        ),
     }
+}
+
+/// Where the trace of a reference ends. Takes no memory.
+pub(crate) fn trace(wiring: &Wiring, r: Ref) -> End
+    requires { IsWiring wiring.now }
+    ensures value { result ≡ trace (cells_of wiring.now) wiring.now.entry r }
+    ensures told { IsTrueEnd (cells_of wiring.now) wiring.now.entry result }
+{
+    traces(wiring, r, 1).end
 }

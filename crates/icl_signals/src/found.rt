@@ -1,7 +1,8 @@
-// Ends of traces that were found, each in a table at the number of its bit.
-ghost use Rattle.std.specs.Prelude.{◌≡◌, true, IfSome};
+// Ends of traces that were found, each in a table at a place of its bit.
+ghost use Rattle.std.specs.Prelude.{◌≡◌, ◌≤◌, ◌+◌, ℕ, true, IfSome};
 ghost use Rattle.icl_signals.specs.Wirings.{cells_of};
-ghost use Rattle.icl_signals.specs.Found.{IsFound, AreFound, turned_end};
+ghost use Rattle.icl_signals.specs.Found.{AreFoundFrom, AreFound, found_after, turned_end};
+ghost use Rattle.icl_signals.specs.Alike.{end_after, wire_after};
 
 use crate::following::flipped;
 use crate::places::place_of;
@@ -17,13 +18,22 @@ pub struct Found {
     pub(crate) end: End,
 }
 
-/// A bit, and where its trace ends.
+/// Where the traces of bits side by side end, so side by side.
+#[derive(Clone, Copy, Drop)]
+pub struct FoundRun {
+    /// Where that of the first one ends.
+    pub(crate) found: Found,
+    /// How many there are.
+    pub(crate) count: u32,
+}
+
+/// A bit, and where its trace and those of the bits after it end.
 #[derive(Clone, Copy, Drop)]
 pub struct Note {
     /// The bit.
     pub(crate) wire: Wire,
-    /// Where its trace ends.
-    pub(crate) found: Found,
+    /// Where the traces end.
+    pub(crate) run: FoundRun,
 }
 
 pub(crate) fn same_wire(a: Wire, b: Wire) -> bool
@@ -51,38 +61,77 @@ pub(crate) fn turned_end(turned: bool, end: End) -> End
     }
 }
 
-/// Where the trace of a bit ends, if that was found. Takes no memory.
-pub(crate) fn known_end(wiring: &Wiring, ends: &[Option<Note>], wire: Wire) -> Option<Found>
+/// An end so many positions after one, if they can be counted.
+fn end_after(end: End, n: u32) -> Option<End>
+    ensures { IfSome result (λ e. e ≡ end_after n end) }
+{
+    match end {
+        End::AtBit {
+            wire,
+            inverted,
+            stands,
+        } => Some(End::AtBit {
+            wire: Wire {
+                cell: wire.cell,
+                part: wire.part,
+                pos: wire.pos.checked_add(n)?,
+            },
+            inverted,
+            stands,
+        }),
+        other => Some(other),
+    }
+}
+
+/// What a note says of a bit and those after it, if it is of them. Takes no memory.
+fn noted(note: &Note, wire: Wire) -> Option<FoundRun>
+    ensures count { IfSome result (λ r. 1 ≤ r.count) }
+    ensures each { IfSome result (λ r. (n : ℕ) × (wire ≡ wire_after n note.now.wire)
+        × (n + r.count ≡ note.now.run.count) × (r.found ≡ found_after n note.now.run.found)) }
+{
+    let from = note.wire;
+    if wire.cell != from.cell || wire.part != from.part || wire.pos < from.pos {
+        return None;
+    }
+    let n = wire.pos - from.pos;
+    if n >= note.run.count {
+        return None;
+    }
+    Some(FoundRun {
+        found: Found {
+            looks: note.run.found.looks,
+            end: end_after(note.run.found.end, n)?,
+        },
+        count: note.run.count - n,
+    })
+}
+
+/// Where the traces of a bit and those after it end, if that was found. Takes no memory.
+pub(crate) fn known_end(wiring: &Wiring, ends: &[Option<Note>], wire: Wire) -> Option<FoundRun>
     requires { AreFound (cells_of wiring.now) wiring.now.entry ends.now }
-    ensures { IfSome result (λ f. IsFound (cells_of wiring.now) wiring.now.entry wire f) }
+    ensures { IfSome result (λ r. AreFoundFrom (cells_of wiring.now) wiring.now.entry wire r) }
 {
     match ends.get(place_of(&wiring.places, wire)) {
-        Some(Some(note)) => {
-            if same_wire(note.wire, wire) {
-                Some(note.found)
-            } else {
-                None
-            }
-        }
+        Some(Some(note)) => noted(note, wire),
         _ => None,
     }
 }
 
-/// The ends with that of one bit more, if the table has a place for it.
+/// The ends with those of some bits more, if the table has a place for them.
 pub(crate) fn with_note(
     wiring: &Wiring,
     ends: Vec<Option<Note>>,
     wire: Wire,
-    found: Found,
+    run: FoundRun,
 ) -> Vec<Option<Note>>
     requires ends { AreFound (cells_of wiring.now) wiring.now.entry ends.items }
-    requires found { IsFound (cells_of wiring.now) wiring.now.entry wire found }
+    requires run { AreFoundFrom (cells_of wiring.now) wiring.now.entry wire run }
     ensures { AreFound (cells_of wiring.now) wiring.now.entry result.items }
 {
     let mut ends = ends;
     let place = place_of(&wiring.places, wire);
     if place < ends.len() {
-        ends[place] = Some(Note { wire, found });
+        ends[place] = Some(Note { wire, run });
     }
     ends
 }

@@ -13,7 +13,7 @@ ghost use Rattle.icl_signals.specs.Connecting.{parts_that};
 
 use crate::ConnectFault;
 use crate::ends::input_from;
-use crate::entries::{PartAt, entries_at, next, own_refs};
+use crate::entries::{PartAt, entries_at, listed, next, own_refs};
 use crate::parts::{Kind, is_instrument, width_of};
 use crate::wiring::Wiring;
 use icl_elab::{Cell, Ref};
@@ -48,6 +48,7 @@ fn input_of(alloc: Global, wiring: &Wiring, cell: u32, e: PartAt) -> Result<Port
         (input_of (cells_of wiring.now) wiring.now.entry cell (numbered (seen_entry e.entry))) }
 {
     let refs = own_refs(alloc, cell, e.part, e.what)?;
+    let refs = listed(alloc, &refs)?;
     let bits = input_bits(alloc, wiring, e.what.at, refs.as_slice());
     drop(refs);
     let (bits, name) = pair_if_ok(bits?, name_of(alloc, e.what.name.as_slice()))?;

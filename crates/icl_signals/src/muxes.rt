@@ -11,7 +11,7 @@ ghost use Rattle.icl_signals.specs.Connecting.{select_from, row_from, mux_of};
 use crate::ConnectFault;
 use crate::copies::values_copy;
 use crate::ends::{scan_from, select_from};
-use crate::entries::PartAt;
+use crate::entries::{PartAt, listed};
 use crate::wiring::Wiring;
 use icl_elab::{Body, Ref};
 use ij_bits::{List, Tern, pair_if_ok};
@@ -83,6 +83,7 @@ pub(crate) fn mux_of(alloc: Global, wiring: &Wiring, e: PartAt) -> Result<Mux, C
             select: refs,
             rows: choices,
         } => {
+            let refs = listed(alloc, refs)?;
             let select = select(alloc, wiring, part.at, refs.as_slice())?;
             let rows = rows(alloc, wiring, part.at, choices.as_slice());
             let (select, rows) = pair_if_ok(select, rows)?;

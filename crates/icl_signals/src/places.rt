@@ -1,93 +1,113 @@
-// Places in a table for the bits of wired ports. An entry of the table says which bit it is of, so no answer
-// depends on these numbers.
-ghost use Rattle.std.specs.Prelude.{◌≡◌, ◌+◌, map, IfOk};
-ghost use Rattle.icl_references.specs.Roles.{seen_part, seen_cell};
-ghost use Rattle.icl_signals.specs.Kinds.{number_at, wired_bits, bits_before, with_bits, places_from};
-ghost use Rattle.icl_signals.specs.Kinds.{all_bits};
+// Places in a table for the bits of wired ports. An entry of the table says which bits it is of, so no answer
+// depends on these numbers, and none of them is in a contract.
 
-use crate::numbers::number_at;
-use crate::parts::{is_wired, width_of};
+use crate::parts::{is_wired, width};
 use crate::wires::Wire;
 use icl_elab::{Cell, Part};
 use ij_bits::OutOfMemory;
 use std::alloc::Global;
 
-/// For each part how many bits of wired ports stand before it, and how many there are after the last one.
-#[derive(Drop)]
-pub(crate) struct BitsBefore {
-    /// For each part.
-    numbers: Vec<u32>,
-    /// After the last one.
+/// The most places where each bit has one.
+const MOST: u64 = 1 << 18;
+
+/// How many places a port has where not each bit has one: its bits share them.
+const SHARED: u64 = 4;
+
+/// The places of a part.
+#[derive(Clone, Copy, Drop)]
+struct PartPlaces {
+    /// The first one.
+    first: u32,
+    /// How many there are.
     count: u32,
 }
 
-/// For each part of each cell how many bits of wired ports stand before it, and how many there are.
+/// Places for the bits of wired ports.
 #[derive(Drop)]
 pub struct Places {
-    /// For each part of each cell.
-    numbers: Vec<Vec<u32>>,
+    /// Those of each part of each cell.
+    parts: Vec<Vec<PartPlaces>>,
     /// How many there are.
     pub(crate) count: u32,
 }
 
-/// The bits of a wired port, none of another part.
-fn wired_bits(part: &Part) -> Result<u32, OutOfMemory>
-    ensures { IfOk result (λ n. n ≡ wired_bits (seen_part part.now)) }
-{
-    if is_wired(&part.body) {
-        width_of(part)
-    } else {
-        Ok(0)
-    }
+/// How many bits a wired port has, none where a part isn't one.
+fn wired_bits(part: &Part) -> u64 {
+    if is_wired(&part.body) { width(part) } else { 0 }
 }
 
-/// More bits, if this many can be counted.
-fn checked_sum(count: u32, bits: u32) -> Result<u32, OutOfMemory>
-    ensures { IfOk result (λ sum. sum ≡ count + bits) }
-{
-    match count.checked_add(bits) {
-        Some(sum) => Ok(sum),
-        None => Err(OutOfMemory),
+/// How many bits the wired ports of a cell have.
+fn bits_in(cell: &Cell) -> u64 {
+    let mut bits = 0u64;
+    for part in cell.parts.as_slice() {
+        bits = bits.saturating_add(wired_bits(part));
     }
+    bits
 }
 
-fn bits_before(alloc: Global, count: u32, parts: &[Part]) -> Result<BitsBefore, OutOfMemory>
-    ensures numbers { IfOk result (λ f. f.numbers.items ≡ bits_before count (map seen_part parts.now)) }
-    ensures count { IfOk result (λ f. f.count ≡ with_bits count (map seen_part parts.now)) }
-{
-    let mut numbers = Vec::new(alloc);
-    let mut next = count;
-    for part in parts {
-        numbers.push(next)?;
-        next = checked_sum(next, wired_bits(part)?)?;
+/// How many places a port has at most.
+fn most_of_a_port(cells: &[Cell]) -> u64 {
+    let mut bits = 0u64;
+    for cell in cells {
+        bits = bits.saturating_add(bits_in(cell));
     }
-    Ok(BitsBefore {
-        numbers,
-        count: next,
-    })
+    if bits <= MOST { MOST } else { SHARED }
+}
+
+/// The places of a cell's parts, after so many others.
+fn places_in(
+    alloc: Global,
+    before: u32,
+    most: u64,
+    cell: &Cell,
+) -> Result<Vec<PartPlaces>, OutOfMemory> {
+    let mut places = Vec::new(alloc);
+    let mut first = before;
+    for part in cell.parts.as_slice() {
+        let count = wired_bits(part).min(most) as u32;
+        places.push(PartPlaces { first, count })?;
+        match first.checked_add(count) {
+            Some(next) => first = next,
+            None => return Err(OutOfMemory),
+        }
+    }
+    Ok(places)
+}
+
+/// The number of the first place after those of a cell.
+fn end_of(places: &[PartPlaces], before: u32) -> u32 {
+    match places.last() {
+        Some(last) => last.first.saturating_add(last.count),
+        None => before,
+    }
 }
 
 /// Places for the bits of all wired ports.
-pub(crate) fn places_of(alloc: Global, cells: &[Cell]) -> Result<Places, OutOfMemory>
-    ensures numbers { IfOk result
-        (λ p. map (λ row. row.items) p.numbers.items ≡ places_from 0 (map seen_cell cells.now)) }
-    ensures count { IfOk result (λ p. p.count ≡ all_bits 0 (map seen_cell cells.now)) }
-{
-    let mut numbers = Vec::new(alloc);
+pub(crate) fn places_of(alloc: Global, cells: &[Cell]) -> Result<Places, OutOfMemory> {
+    let most = most_of_a_port(cells);
+    let mut parts = Vec::new(alloc);
     let mut count = 0;
     for cell in cells {
-        let found = bits_before(alloc, count, cell.parts.as_slice())?;
-        count = found.count;
-        numbers.push(found.numbers)?;
+        let places = places_in(alloc, count, most, cell)?;
+        count = end_of(places.as_slice(), count);
+        parts.push(places)?;
     }
-    Ok(Places { numbers, count })
+    Ok(Places { parts, count })
 }
 
 /// The place of a bit of a wired port. Takes no memory.
-pub(crate) fn place_of(places: &Places, wire: Wire) -> usize
-    ensures { result
-        ≡ number_at (map (λ row. row.items) places.now.numbers.items) wire.cell wire.part + wire.pos }
-{
-    let start = number_at(places.numbers.as_slice(), wire.cell, wire.part);
-    start as usize + wire.pos as usize
+pub(crate) fn place_of(places: &Places, wire: Wire) -> usize {
+    let Some(row) = places.parts.get(wire.cell as usize) else {
+        return usize::MAX;
+    };
+    match row.get(wire.part as usize) {
+        Some(part) => {
+            if part.count == 0 {
+                usize::MAX
+            } else {
+                part.first as usize + (wire.pos % part.count) as usize
+            }
+        }
+        None => usize::MAX,
+    }
 }

@@ -15,12 +15,13 @@ ghost use Rattle.icl_signals.specs.Connecting.{data_from, scan_source, captures,
 use crate::ConnectFault;
 use crate::copies::resets;
 use crate::ends::{data_from, scan_from};
-use crate::entries::PartAt;
+use crate::entries::{PartAt, listed};
 use crate::numbers::number_at;
 use crate::parts::width_of;
 use crate::wiring::Wiring;
 use icl_elab::{Body, Ref};
 use ij_bits::{List, OutOfMemory, pair_if_ok};
+use ij_runs::Runs;
 use ij_text::Place;
 use net_graph::{Point, Reg, Sig};
 use std::alloc::Global;
@@ -70,14 +71,17 @@ fn captures(
     wiring: &Wiring,
     at: Place,
     width: u32,
-    capture: &Option<List<Ref>>,
+    capture: &Option<Runs<Ref>>,
 ) -> Result<List<Sig>, ConnectFault>
     requires { IsWiring wiring.now }
     ensures { Gives (λ all. all.items) result
         (captures (cells_of wiring.now) wiring.now.entry at width (option_map seen_refs capture.now)) }
 {
     match capture {
-        Some(refs) => signals(alloc, wiring, at, refs.as_slice()),
+        Some(refs) => {
+            let refs = listed(alloc, refs)?;
+            signals(alloc, wiring, at, refs.as_slice())
+        }
         None => Ok(absent(alloc, width)?),
     }
 }

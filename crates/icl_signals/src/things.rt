@@ -1,22 +1,26 @@
 // What procedures may name in a network.
-ghost use Rattle.std.specs.Prelude.{◌≡◌, map, true, Some, None, IfOk};
+ghost use Rattle.std.specs.Prelude.{◌≡◌, ◌<◌, ◌≤◌, ℕ, map, true, Some, IfOk};
+ghost use Rattle.net_graph.specs.SpotRuns.{spot_after};
 ghost use Rattle.icl_elab.specs.WellFormed.{is_register};
 ghost use Rattle.icl_references.specs.Roles.{seen_part, part_at};
+ghost use Rattle.icl_references.specs.RefRuns.{ref_after};
 ghost use Rattle.icl_signals.specs.Wirings.{IsWiring, cells_of};
 ghost use Rattle.icl_signals.specs.TrueEnds.{seen_entry};
 ghost use Rattle.icl_signals.specs.PlainNets.{seen_thing};
 ghost use Rattle.icl_signals.specs.Connecting.{own_bits, spot_of, thing_of, number_among};
 
 use crate::copies::words_copy;
-use crate::ends::{constant, signal_from};
+use crate::ends::{constant, signal_at};
 use crate::entries::{PartAt, own_refs};
+use crate::following::traces;
 use crate::numbers::number_at;
 use crate::parts::part_at;
 use crate::wiring::Wiring;
 use icl_elab::{Body, Part, Ref};
 use ij_bits::{List, OutOfMemory, pair_if_ok};
 use ij_text::name_of;
-use net_graph::{BitId, Spot, Spots, Thing};
+use ij_runs::{Follow, Runs};
+use net_graph::{BitId, Sig, Spot, Spots, Thing};
 use std::alloc::Global;
 
 /// The number of a register.
@@ -29,40 +33,81 @@ fn register_number(wiring: &Wiring, cell: u32, part: u32, what: &Part) -> u32
     number_at(wiring.registers.as_slice(), cell, part)
 }
 
-/// What a bit of a thing is.
-fn spot_of(wiring: &Wiring, r: Ref) -> Spot
-    requires { IsWiring wiring.now }
-    ensures { result ≡ spot_of (cells_of wiring.now) wiring.now.entry r }
+/// What bits of a thing side by side are: the first one, and how many there are.
+#[derive(Clone, Copy, Drop)]
+struct SpotRun {
+    /// The first one.
+    spot: Spot,
+    /// How many there are.
+    count: u32,
+}
+
+/// What the bits are that a reference and those after it name, of so many.
+fn spots_from(wiring: &Wiring, r: Ref, count: u32) -> SpotRun
+    requires wiring { IsWiring wiring.now }
+    requires count { 1 ≤ count }
+    ensures some { 1 ≤ result.count }
+    ensures few { result.count ≤ count }
+    ensures each { (k : ℕ) → k < result.count
+        → spot_of (cells_of wiring.now) wiring.now.entry (ref_after k r) ≡ spot_after k result.spot }
 {
-    match r {
-        Ref::Fixed(b) => Spot::Outward(constant(b)),
+    let (cell, part, pos) = match r {
+        Ref::Fixed(b) => {
+            return SpotRun {
+                spot: Spot::Outward(constant(b)),
+                count,
+            };
+        }
         Ref::Bit {
-            cell,
-            part,
-            pos,
-            ..
-        } => match part_at(wiring.hier, cell, part) {
-            Some(p) => match &p.body {
-                Body::Register { .. } => Spot::Held(BitId {
-                    reg: register_number(wiring, cell, part, p),
-                    pos,
-                }),
-                Body::DataIn { .. } => Spot::Inward(signal_from(wiring, p.at, r)),
-                _ => Spot::Outward(signal_from(wiring, p.at, r)),
-            },
-            None => Spot::Outward(net_graph::Sig::Absent),
+            cell, part, pos, ..
+        } => (cell, part, pos),
+    };
+    let Some(p) = part_at(wiring.hier, cell, part) else {
+        return SpotRun {
+            spot: Spot::Outward(Sig::Absent),
+            count,
+        };
+    };
+    match &p.body {
+        Body::Register { .. } => SpotRun {
+            spot: Spot::Held(BitId {
+                reg: register_number(wiring, cell, part, p),
+                pos,
+            }),
+            count,
         },
+        Body::DataIn { .. } => {
+            let run = traces(wiring, r, count);
+            SpotRun {
+                spot: Spot::Inward(signal_at(wiring, run.end)),
+                count: run.count,
+            }
+        }
+        _ => {
+            let run = traces(wiring, r, count);
+            SpotRun {
+                spot: Spot::Outward(signal_at(wiring, run.end)),
+                count: run.count,
+            }
+        }
     }
 }
 
 /// The bits that references name.
-fn named_spots(alloc: Global, wiring: &Wiring, refs: &[Ref]) -> Result<Spots, OutOfMemory>
+fn named_spots(alloc: Global, wiring: &Wiring, refs: &Runs<Ref>) -> Result<Spots, OutOfMemory>
     requires { IsWiring wiring.now }
-    ensures { IfOk result (λ all. all.items ≡ map (spot_of (cells_of wiring.now) wiring.now.entry) refs.now) }
+    ensures { IfOk result (λ all. all.items
+        ≡ map (spot_of (cells_of wiring.now) wiring.now.entry) refs.now.items) }
 {
     let mut all = Spots::new(alloc);
-    for r in refs {
-        all.push(spot_of(wiring, *r))?;
+    let mut pos = 0;
+    for _bit in 0..refs.len() {
+        if pos < refs.len() {
+            let part = refs.part_at(pos);
+            let run = spots_from(wiring, part.first.after(part.from), part.len);
+            all.push_run(run.spot, run.count)?;
+            pos += run.count as usize;
+        }
     }
     Ok(all)
 }
@@ -74,7 +119,7 @@ fn own_spots(alloc: Global, wiring: &Wiring, e: PartAt) -> Result<Spots, OutOfMe
         ≡ map (spot_of (cells_of wiring.now) wiring.now.entry) (own_bits (seen_entry e.entry))) }
 {
     let refs = own_refs(alloc, e.cell, e.part, e.what)?;
-    named_spots(alloc, wiring, refs.as_slice())
+    named_spots(alloc, wiring, &refs)
 }
 
 /// What procedures may name by a part.
@@ -86,7 +131,7 @@ fn thing_of(alloc: Global, wiring: &Wiring, e: PartAt) -> Result<Thing, OutOfMem
 {
     let part = e.what;
     let bits = match &part.body {
-        Body::Alias { refs } => named_spots(alloc, wiring, refs.as_slice())?,
+        Body::Alias { refs } => named_spots(alloc, wiring, refs)?,
         _ => own_spots(alloc, wiring, e)?,
     };
     let (bits, name) = pair_if_ok(bits, name_of(alloc, part.name.as_slice()))?;

@@ -8,11 +8,7 @@ pub loop-pos-preserved : goal.loop-pos-preserved
 loop-pos-preserved c =
     let f = ref_at c.args.self.now c.args.part in
     let pos = c.loop-pos.pos in
-    record {
-      items = c.push_reserved.ensures.items
-          ∙ ap (λ (r : Ref). c.loop-pos.refs.items ++ r ∷ []) c.ref_at.ensures
-          ∙ ap (λ (l : List Ref). l ++ f pos ∷ []) c.loop-pos.invariant.items
-          ∙ sym (map-range_with_len_more f 0 pos pos (omega arith));
-      room = let spare = c.push_reserved.ensures.spare in
-          let room = c.loop-pos.invariant.room in omega (arith, spare, room);
-    }
+    c.in_ok-push.ensures.ok
+    ∙ ap (λ (r : Ref). c.loop-pos.refs.items ++ r ∷ []) c.ref_at.ensures
+    ∙ ap (λ (l : List Ref). l ++ f pos ∷ []) c.loop-pos.invariant
+    ∙ sym (map-range_with_len_more f 0 pos pos (omega arith))

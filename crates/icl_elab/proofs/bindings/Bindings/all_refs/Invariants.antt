@@ -1,10 +1,7 @@
-use Rattle.std.proofs.Common.{◌≡◌, ◌+◌, ◌≤◌, map}
+use Rattle.std.proofs.Common.{◌≡◌, map}
 use Rattle.std.specs.List.{range_with_len}
 use Rattle.icl_elab.specs.Bindings.{ref_at}
 use Rattle.icl_elab.proofs.bindings.Bindings.all_refs.Given as goal
 
 abbrev pub invariant-loop-pos : goal.invariant-loop-pos
-invariant-loop-pos l = record {
-  items : l.refs.items ≡ map (ref_at l.self l.part) (range_with_len 0 l.pos);
-  room : l.wide ≤ l.pos + l.refs.spare;
-}
+invariant-loop-pos l = l.refs.items ≡ map (ref_at l.self l.part) (range_with_len 0 l.pos)
