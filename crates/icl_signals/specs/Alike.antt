@@ -4,7 +4,10 @@ use Rattle.ij_bits.specs.BitLists.{flip_if}
 use Rattle.icl_references.specs.declared.hier.Ref.{Ref}
 use Rattle.icl_references.specs.declared.hier.Ref.TheVariants.{Fixed, Bit}
 use Rattle.icl_references.specs.RefRuns.{ref_after}
-use Rattle.icl_references.specs.Roles.{CellOf}
+use Rattle.icl_references.specs.Roles.{Role, DataInput, CellOf}
+use Rattle.net_graph.specs.declared.net.Sig.{Sig}
+use Rattle.net_graph.specs.declared.net.Spot.{Spot}
+use Rattle.net_graph.specs.declared.net.Spot.TheVariants.{Inward, Outward}
 use Rattle.icl_signals.specs.declared.wires.Wire.{Wire}
 use Rattle.icl_signals.specs.declared.wires.End.{End}
 use Rattle.icl_signals.specs.declared.wires.End.TheVariants.{AtConstant, AtBit, InLoop}
@@ -48,3 +51,10 @@ next_bit inverted w stands = Ended (AtBit w inverted stands)
 abbrev pub AreAlike : List CellOf → Wire → Wire → ℕ → Type 0
 AreAlike cells entry w count = (k : ℕ) → k < count
     → driver_of cells entry (wire_after k w) ≡ driver_after k (driver_of cells entry w)
+
+-- ---- things
+
+-- what a bit of a part that is no register is, with this signal
+abbrev pub data_spot : Role → Sig → Spot
+data_spot (DataInput bound) s = Inward s
+data_spot role s = Outward s

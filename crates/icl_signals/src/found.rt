@@ -83,8 +83,8 @@ fn end_after(end: End, n: u32) -> Option<End>
     }
 }
 
-/// What a note says of a bit and those after it, if it is of them. Takes no memory.
-fn noted(note: &Note, wire: Wire) -> Option<FoundRun>
+/// The part of a note that is of a bit and those after it, if it is of them. Takes no memory.
+fn part_from(note: &Note, wire: Wire) -> Option<FoundRun>
     ensures count { IfSome result (λ r. 1 ≤ r.count) }
     ensures each { IfSome result (λ r. (n : ℕ) × (wire ≡ wire_after n note.now.wire)
         × (n + r.count ≡ note.now.run.count) × (r.found ≡ found_after n note.now.run.found)) }
@@ -106,13 +106,22 @@ fn noted(note: &Note, wire: Wire) -> Option<FoundRun>
     })
 }
 
+/// What a note says of a bit and those after it, if it is of them. Takes no memory.
+fn noted(wiring: &Wiring, note: &Note, wire: Wire) -> Option<FoundRun>
+    requires { AreFoundFrom (cells_of wiring.now) wiring.now.entry note.now.wire note.now.run }
+    ensures { IfSome result (λ r. AreFoundFrom (cells_of wiring.now) wiring.now.entry wire r) }
+{
+    let _of = wiring;
+    part_from(note, wire)
+}
+
 /// Where the traces of a bit and those after it end, if that was found. Takes no memory.
 pub(crate) fn known_end(wiring: &Wiring, ends: &[Option<Note>], wire: Wire) -> Option<FoundRun>
     requires { AreFound (cells_of wiring.now) wiring.now.entry ends.now }
     ensures { IfSome result (λ r. AreFoundFrom (cells_of wiring.now) wiring.now.entry wire r) }
 {
     match ends.get(place_of(&wiring.places, wire)) {
-        Some(Some(note)) => noted(note, wire),
+        Some(Some(note)) => noted(wiring, note, wire),
         _ => None,
     }
 }

@@ -64,7 +64,7 @@ fn places_in(
     let mut places = Vec::new(alloc);
     let mut first = before;
     for part in cell.parts.as_slice() {
-        let count = wired_bits(part).min(most) as u32;
+        let count = u32::try_from(wired_bits(part).min(most)).unwrap_or(u32::MAX);
         places.push(PartPlaces { first, count })?;
         match first.checked_add(count) {
             Some(next) => first = next,

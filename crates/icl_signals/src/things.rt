@@ -2,7 +2,8 @@
 ghost use Rattle.std.specs.Prelude.{◌≡◌, ◌<◌, ◌≤◌, ℕ, map, true, Some, IfOk};
 ghost use Rattle.net_graph.specs.SpotRuns.{spot_after};
 ghost use Rattle.icl_elab.specs.WellFormed.{is_register};
-ghost use Rattle.icl_references.specs.Roles.{seen_part, part_at};
+ghost use Rattle.icl_references.specs.Roles.{seen_body, seen_part, part_at};
+ghost use Rattle.icl_signals.specs.Alike.{data_spot};
 ghost use Rattle.icl_references.specs.RefRuns.{ref_after};
 ghost use Rattle.icl_signals.specs.Wirings.{IsWiring, cells_of};
 ghost use Rattle.icl_signals.specs.TrueEnds.{seen_entry};
@@ -14,7 +15,7 @@ use crate::ends::{constant, signal_at};
 use crate::entries::{PartAt, own_refs};
 use crate::following::traces;
 use crate::numbers::number_at;
-use crate::parts::part_at;
+use crate::parts::{Kind, is_of, part_at};
 use crate::wiring::Wiring;
 use icl_elab::{Body, Part, Ref};
 use ij_bits::{List, OutOfMemory, pair_if_ok};
@@ -40,6 +41,16 @@ struct SpotRun {
     spot: Spot,
     /// How many there are.
     count: u32,
+}
+
+/// What a bit of a part that is no register is, with this signal.
+fn data_spot(body: &Body, sig: Sig) -> Spot
+    ensures { result ≡ data_spot (seen_body body.now) sig }
+{
+    match body {
+        Body::DataIn { .. } => Spot::Inward(sig),
+        _ => Spot::Outward(sig),
+    }
 }
 
 /// What the bits are that a reference and those after it name, of so many.
@@ -68,28 +79,19 @@ fn spots_from(wiring: &Wiring, r: Ref, count: u32) -> SpotRun
             count,
         };
     };
-    match &p.body {
-        Body::Register { .. } => SpotRun {
+    if is_of(Kind::Register, &p.body) {
+        return SpotRun {
             spot: Spot::Held(BitId {
                 reg: register_number(wiring, cell, part, p),
                 pos,
             }),
             count,
-        },
-        Body::DataIn { .. } => {
-            let run = traces(wiring, r, count);
-            SpotRun {
-                spot: Spot::Inward(signal_at(wiring, run.end)),
-                count: run.count,
-            }
-        }
-        _ => {
-            let run = traces(wiring, r, count);
-            SpotRun {
-                spot: Spot::Outward(signal_at(wiring, run.end)),
-                count: run.count,
-            }
-        }
+        };
+    }
+    let run = traces(wiring, r, count);
+    SpotRun {
+        spot: data_spot(&p.body, signal_at(wiring, run.end)),
+        count: run.count,
     }
 }
 
@@ -102,12 +104,13 @@ fn named_spots(alloc: Global, wiring: &Wiring, refs: &Runs<Ref>) -> Result<Spots
     let mut all = Spots::new(alloc);
     let mut pos = 0;
     for _bit in 0..refs.len() {
-        if pos < refs.len() {
-            let part = refs.part_at(pos);
-            let run = spots_from(wiring, part.first.after(part.from), part.len);
-            all.push_run(run.spot, run.count)?;
-            pos += run.count as usize;
+        if pos >= refs.len() {
+            return Ok(all);
         }
+        let part = refs.part_at(pos);
+        let run = spots_from(wiring, part.first.after(part.from), part.len);
+        all.push_run(run.spot, run.count)?;
+        pos += run.count as usize;
     }
     Ok(all)
 }
