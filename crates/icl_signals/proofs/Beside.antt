@@ -1,9 +1,6 @@
 -- Traces of bits side by side go on side by side.
-use Rattle.std.proofs.Common.{◌≡◌, ◌<◌, ◌≤◌, ◌+◌, ◌-◌, ℕ, zero, suc, Bool, List, refl, sym, ap, subst, ◌∙◌, arith}
-use Rattle.ij_bits.specs.BitLists.{flip_if}
-use Rattle.icl_references.specs.declared.hier.Ref.{Ref}
+use Rattle.std.proofs.Common.{◌≡◌, ◌<◌, ◌≤◌, ◌+◌, ℕ, suc, Bool, List, refl, sym, ap, subst, ◌∙◌, arith}
 use Rattle.icl_references.specs.declared.hier.Ref.TheVariants.{Fixed, Bit}
-use Rattle.icl_references.specs.RefRuns.{ref_after}
 use Rattle.icl_references.specs.Roles.{CellOf}
 use Rattle.icl_signals.specs.declared.wires.Wire.{Wire}
 use Rattle.icl_signals.specs.declared.wires.Driver.{Driver}
@@ -13,7 +10,6 @@ use Rattle.icl_signals.specs.declared.wires.Driver.TheVariants.{NothingAtAll}
 use Rattle.icl_signals.specs.declared.wires.End.{End}
 use Rattle.icl_signals.specs.declared.wires.End.TheVariants.{AtConstant, AtBit, InLoop}
 use Rattle.icl_signals.specs.declared.following.NextBit.{NextBit}
-use Rattle.icl_signals.specs.declared.following.NextBit.TheVariants.{Ended, At}
 use Rattle.icl_signals.specs.declared.found.FoundRun.{FoundRun}
 use Rattle.icl_signals.specs.Moves.{driver_of}
 use Rattle.icl_signals.specs.Traces.{from_move, follow}
@@ -122,8 +118,8 @@ module _ (cells : List CellOf) (entry : Wire) where
         some = some;
         each = λ k lt.
             let here : found_after k s.found ≡ found_after (n + k) r.found =
-                ap (found_after k) is ∙ ap (λ end. record { looks = r.found.looks; end = end })
-                (end_goes_on k n r.found.end) in
+            ap (found_after k) is ∙ ap (λ end. record { looks = r.found.looks; end = end })
+            (end_goes_on k n r.found.end) in
             subst (IsFound cells entry (wire_after k (wire_after n w))) (sym here)
             (subst (λ v. IsFound cells entry v (found_after (n + k) r.found)) (sym (wire_goes_on k n w))
             (h.each (n + k) (omega (arith, e, lt))));

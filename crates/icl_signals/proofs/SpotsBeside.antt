@@ -1,5 +1,6 @@
 -- Bits of things side by side.
-use Rattle.std.proofs.Common.{◌≡◌, ◌<◌, ◌≤◌, ◌+◌, ◌++◌, ◌∷◌, [], ℕ, zero, suc, Bool, true, false, List, Some, map, take}
+use Rattle.std.proofs.Common.{◌≡◌, ◌<◌, ◌≤◌, ◌+◌, ◌++◌, ◌∷◌, [], ℕ, zero, suc, Bool, true, false, List, Some}
+use Rattle.std.proofs.Common.{map, take}
 use Rattle.std.proofs.Common.{length, get_or, refl, sym, ap, ◌∙◌, arith}
 use Rattle.std.specs.List.{range_with_len}
 use Rattle.std.proofs.lemmas.List.{append-nil, append_assoc, map_more}
@@ -7,24 +8,25 @@ use Rattle.std.proofs.lemmas.List.FromFn.{map-range_with_len_more}
 use Rattle.std.proofs.lemmas.Bool.{true≢false}
 use Rattle.icl_elab.specs.WellFormed.{is_register}
 use Rattle.icl_references.specs.declared.hier.Ref.{Ref}
-use Rattle.icl_references.specs.declared.hier.Ref.TheVariants.{Fixed, Bit}
+use Rattle.icl_references.specs.declared.hier.Ref.TheVariants.{Bit}
 use Rattle.icl_references.specs.RefRuns.{ref_after}
 use Rattle.icl_references.specs.Roles.{Role, ScanInput, ScanOutput, DataInput, DataOutput, ControlPort}
-use Rattle.icl_references.specs.Roles.{AScanRegister, AScanMux, AnAliasOf, AnInstance, AnInterfaceOf, AnAccessLink}
+use Rattle.icl_references.specs.Roles.{AScanRegister, AScanMux, AnAliasOf, AnInstance, AnInterfaceOf}
+use Rattle.icl_references.specs.Roles.{AnAccessLink}
 use Rattle.icl_references.specs.Roles.{CellOf, PartOf, part_at}
 use Rattle.net_graph.specs.declared.net.Sig.{Sig}
 use Rattle.ij_text.specs.declared.Place.{Place}
 use Rattle.net_graph.specs.declared.net.Spot.TheVariants.{Held, Outward}
 use Rattle.net_graph.specs.SpotRuns.{sig_after, spot_after}
 use Rattle.icl_signals.specs.declared.wires.Wire.{Wire}
-use Rattle.icl_signals.specs.declared.wires.Driver.{Driver}
 use Rattle.icl_signals.specs.declared.wires.Driver.TheVariants.{Another, ARegisterBit, AMuxOutput}
 use Rattle.icl_signals.specs.declared.wires.Driver.TheVariants.{AnInstrumentOutput, TheEntry, AFreeInput}
 use Rattle.icl_signals.specs.declared.wires.Driver.TheVariants.{NothingAtAll}
 use Rattle.icl_signals.specs.declared.wires.End.{End}
 use Rattle.icl_signals.specs.declared.wires.End.TheVariants.{AtConstant, AtBit, InLoop}
 use Rattle.icl_signals.specs.Alike.{end_after, data_spot}
-use Rattle.icl_signals.specs.Connecting.{constant, data_end, or_absent, register_bit, signal_from, spot_by, spot_in}
+use Rattle.icl_signals.specs.Connecting.{constant, data_end, or_absent, register_bit, signal_from, spot_by}
+use Rattle.icl_signals.specs.Connecting.{spot_in}
 use Rattle.icl_signals.specs.Connecting.{spot_of}
 use Rattle.icl_signals.specs.Traces.{trace}
 
@@ -77,7 +79,8 @@ module _ (cells : List CellOf) where
     data_part p w r (AnInterfaceOf ports) e = refl
     data_part p w r (AnAccessLink is) e = refl
 
-    data_beside : (k : ℕ) (role : Role) (s : Sig) → data_spot role (sig_after k s) ≡ spot_after k (data_spot role s)
+    data_beside : (k : ℕ) (role : Role) (s : Sig) → data_spot role (sig_after k s) ≡ spot_after k (data_spot
+        role s)
     data_beside k (AScanRegister scan capture reset) s = refl
     data_beside k (ScanInput b) s = refl
     data_beside k (ScanOutput s) t = refl
@@ -91,7 +94,8 @@ module _ (cells : List CellOf) where
     data_beside k (AnAccessLink is) s = refl
 
     -- a bit beside one of a register
-    pub registers_beside : (cell part pos : ℕ) (i : Bool) (p : PartOf) (k : ℕ) → part_at cells cell part ≡ Some p
+    pub registers_beside : (cell part pos : ℕ) (i : Bool) (p : PartOf) (k : ℕ) → part_at cells cell part ≡
+        Some p
         → is_register p.role ≡ true → spot_of cells entry (ref_after k (Bit cell part pos i))
         ≡ spot_after k (Held (register_bit cells (record { cell = cell; part = part; pos = pos })))
     registers_beside cell part pos i p k at is =

@@ -1,5 +1,5 @@
 -- Bits of a part side by side whose traces go on side by side.
-use Rattle.std.specs.Prelude.{◌≡◌, ◌<◌, ◌≤◌, ◌+◌, ℕ, Bool, List}
+use Rattle.std.specs.Prelude.{◌≡◌, ◌<◌, ◌+◌, ℕ, Bool, List}
 use Rattle.ij_bits.specs.BitLists.{flip_if}
 use Rattle.icl_references.specs.declared.hier.Ref.{Ref}
 use Rattle.icl_references.specs.declared.hier.Ref.TheVariants.{Fixed, Bit}

@@ -3,7 +3,6 @@
 use Rattle.std.specs.Prelude.{ℕ, ◌+◌, Bool, false, cond, is_some, List, [], ◌∷◌, get_or}
 use Rattle.icl_elab.specs.WellFormed.{is_register, is_mux, is_thing, is_data_out, is_data_in}
 use Rattle.icl_references.specs.Roles.{Role, ScanInput, ScanOutput, DataInput, DataOutput, PartOf, CellOf}
-use Rattle.icl_references.specs.Roles.{part_width}
 use Rattle.icl_signals.specs.declared.parts.Kind.{Kind}
 use Rattle.icl_signals.specs.declared.parts.Kind.TheVariants.{Register, Mux, Thing, Output, Input}
 

@@ -69,12 +69,7 @@ pub(crate) fn alike(wiring: &Wiring, wire: Wire, count: u32) -> u32
         return count;
     }
     match part_at(wiring.hier, wire.cell, wire.part) {
-        Some(part) => alike_in_role(
-            is_top(wiring.hier, wire.cell),
-            &part.body,
-            wire.pos,
-            count,
-        ),
+        Some(part) => alike_in_role(is_top(wiring.hier, wire.cell), &part.body, wire.pos, count),
         None => count,
     }
 }

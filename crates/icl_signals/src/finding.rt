@@ -30,7 +30,8 @@ fn ends_after_moves(moves: u64, inverted: bool, count: u32, run: FoundRun) -> Op
     })
 }
 
-/// Where the traces of bits from one on end, of so many. The bit after 1, 2, 4, 8 moves and so on is marked in
+/// Where the traces of bits from one on end, of so many. The bit after 1, 2, 4, 8 moves and so on is marked
+/// in
 /// turn: a trace that comes back meets the mark after at most three times as many moves as there are bits on
 /// its way. Takes no memory.
 fn find(wiring: &Wiring, ends: &[Option<Note>], start: Wire, count: u32) -> Option<FoundRun>

@@ -19,8 +19,8 @@ use crate::parts::{Kind, is_of, part_at};
 use crate::wiring::Wiring;
 use icl_elab::{Body, Part, Ref};
 use ij_bits::{List, OutOfMemory, pair_if_ok};
-use ij_text::name_of;
 use ij_runs::{Follow, Runs};
+use ij_text::name_of;
 use net_graph::{BitId, Sig, Spot, Spots, Thing};
 use std::alloc::Global;
 
@@ -70,7 +70,10 @@ fn spots_from(wiring: &Wiring, r: Ref, count: u32) -> SpotRun
             };
         }
         Ref::Bit {
-            cell, part, pos, ..
+            cell,
+            part,
+            pos,
+            ..
         } => (cell, part, pos),
     };
     let Some(p) = part_at(wiring.hier, cell, part) else {

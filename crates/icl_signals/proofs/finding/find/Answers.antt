@@ -1,4 +1,5 @@
-use Rattle.std.proofs.Common.{◌≡◌, ◌<◌, ◌≤◌, ◌+◌, ℕ, Bool, List, Option, Some, None, min, refl, sym, ap, subst}
+use Rattle.std.proofs.Common.{◌≡◌, ◌<◌, ◌≤◌, ◌+◌, ℕ, Bool, List, Option, Some, None, min, refl, sym, ap}
+use Rattle.std.proofs.Common.{subst}
 use Rattle.std.proofs.Common.{◌∙◌, arith}
 use Rattle.std.specs.Prelude.{IfSome}
 use Rattle.icl_references.specs.Roles.{CellOf}
@@ -55,7 +56,8 @@ returns-in-Ended c =
     let is = sym c.in-Ended.is ∙ c.one_move.ensures in
     record {
       some = a.some;
-      each = λ k lt. ended (cells_of w) w.entry (wire_after k c.args.start) l.moves l.inverted (wire_after k l.wire)
+      each = λ k lt. ended (cells_of w) w.entry (wire_after k c.args.start) l.moves l.inverted (wire_after k
+          l.wire)
           _ (l.invariant.way k (omega (arith, lt, few)))
           (moves (cells_of w) w.entry l.inverted l.wire c.alike-count.result _ a.alike is k lt) refl
           (told (cells_of w) w.entry l.inverted l.wire c.alike-count.result _ a.alike is k lt);
@@ -91,10 +93,10 @@ loop-moves-preserved c =
     let few = a.few in
     let is = sym c.in-At.is ∙ c.one_move.ensures in
     let way : (k : ℕ) → k < c.alike-count.result → IsOnWay (cells_of w) w.entry (wire_after k c.args.start)
-        (l.moves + 1) c.in-At.turned (wire_after k c.in-At.other) = λ k lt.
-        moved (cells_of w) w.entry (wire_after k c.args.start) l.moves l.inverted (wire_after k l.wire)
-        c.in-At.turned (wire_after k c.in-At.other) (l.invariant.way k (omega (arith, lt, few)))
-        (moves (cells_of w) w.entry l.inverted l.wire c.alike-count.result _ a.alike is k lt) in
+    (l.moves + 1) c.in-At.turned (wire_after k c.in-At.other) = λ k lt.
+    moved (cells_of w) w.entry (wire_after k c.args.start) l.moves l.inverted (wire_after k l.wire)
+    c.in-At.turned (wire_after k c.in-At.other) (l.invariant.way k (omega (arith, lt, few)))
+    (moves (cells_of w) w.entry l.inverted l.wire c.alike-count.result _ a.alike is k lt) in
     elim c.if-moves-until.branch [
       | then-moves-until b ↦ record {
         some = a.some;

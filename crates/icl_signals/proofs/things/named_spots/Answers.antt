@@ -1,5 +1,4 @@
-use Rattle.std.proofs.Common.{◌≡◌, ◌<◌, ◌+◌, ◌++◌, ℕ, map, take, length, get_or, sym, ap, ◌∙◌, arith}
-use Rattle.std.proofs.lemmas.List.{take_all}
+use Rattle.std.proofs.Common.{◌++◌, sym, ap, ◌∙◌, arith}
 use Rattle.ij_runs.specs.Runs.{following}
 use Rattle.net_graph.specs.SpotRuns.{spot_after}
 use Rattle.icl_references.specs.RefRuns.{ref_after, both_after}
