@@ -5,7 +5,7 @@ import pathlib
 import re
 import sys
 
-CRATES, LEVELS, WAYS = 57, 13, 15_000
+CRATES, LEVELS, WAYS, WAYS_OF_OTHERS = 57, 13, 15_000, 17_000
 PROGRAM = "ijtag_cli"
 
 
@@ -45,7 +45,7 @@ def main():
         print(f"ways: {crate} depends on {it}, and no file of it names it")
     print(f"ways: {len(below)} crates, {levels[PROGRAM]} levels, {ways[PROGRAM]} ways from {PROGRAM}")
     bounds = [("crates", len(below), CRATES), ("levels", max(levels.values()), LEVELS),
-              ("ways", max(ways.values()), WAYS)]
+              ("ways", ways[PROGRAM], WAYS), ("ways of another crate", max(ways.values()), WAYS_OF_OTHERS)]
     wide = [it for it in bounds if it[1] > it[2]]
     for what, count_now, bound in wide:
         print(f"ways: {count_now} {what}, {bound} is the most")

@@ -4,6 +4,7 @@ use crate::texts::{Shown, read};
 use icl_elab::{Body, Cell, Hier, Part, Ref, elaborate};
 use icl_lexer::Design;
 use ij_bits::{List, Tern};
+use ij_runs::Runs;
 use ij_io::Word;
 use ij_text::{Name, name_of};
 use std::alloc::Global;
@@ -30,25 +31,26 @@ fn show_ref(shown: &mut Shown, r: Ref) {
 }
 
 /// Bits, position 0 first.
-fn show_refs(shown: &mut Shown, refs: &[Ref]) {
-    for r in refs {
+fn show_refs(shown: &mut Shown, refs: &Runs<Ref>) {
+    for i in 0..refs.len() {
         shown.text(b" ");
-        show_ref(shown, *r);
+        show_ref(shown, refs.get(i));
     }
 }
 
 /// A bit, if there is one.
 fn show_one(shown: &mut Shown, r: &Option<Ref>) {
     if let Some(r) = r {
-        show_refs(shown, &[*r]);
+        shown.text(b" ");
+        show_ref(shown, *r);
     }
 }
 
 /// Bits after a word, if there are any.
-fn show_all(shown: &mut Shown, word: &[u8], refs: &Option<List<Ref>>) {
+fn show_all(shown: &mut Shown, word: &[u8], refs: &Option<Runs<Ref>>) {
     if let Some(refs) = refs {
         shown.text(word);
-        show_refs(shown, refs.as_slice());
+        show_refs(shown, refs);
     }
 }
 
@@ -134,11 +136,11 @@ fn show_named(shown: &mut Shown, body: &Body) {
             show_reset(shown, reset);
         }
         Body::Mux { select, rows } => {
-            show_refs(shown, select.as_slice());
+            show_refs(shown, select);
             shown.text(b" rows");
             show_rows(shown, rows.as_slice());
         }
-        Body::Alias { refs } => show_refs(shown, refs.as_slice()),
+        Body::Alias { refs } => show_refs(shown, refs),
         Body::Child { cell } => shown.number(b" ", *cell),
         Body::Interface { ports } => show_ports(shown, ports.as_slice()),
         Body::Link { instrs } => show_instructions(shown, instrs.as_slice()),

@@ -1,5 +1,5 @@
-//! Tests of the readers of ICL, of what prints it again, and of the calls over scan networks, on networks of
-//! ICL texts that are in tables.
+//! Tests of the readers of ICL, of what prints it again, of lists in runs, and of the calls over scan
+//! networks, on networks of ICL texts that are in tables.
 #![tactic(auto)]
 
 #[cfg(test)]
@@ -21,6 +21,8 @@ mod network_lists;
 #[cfg(test)]
 mod network_pictures;
 mod network_texts;
+#[cfg(test)]
+mod runs;
 #[cfg(test)]
 mod texts;
 #[cfg(test)]
