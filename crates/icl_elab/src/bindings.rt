@@ -14,7 +14,7 @@ ghost use Rattle.icl_references.specs.Roles.{seen_refs};
 ghost use Rattle.icl_references.specs.Signals.{scan_signal};
 ghost use Rattle.icl_references.specs.Tables.{IsHere, frames_of, here_in, no_frame, seen_member};
 
-use crate::marks::{Row, note};
+use crate::marks::{ClosedRow, Row, closed_rows, note};
 use icl_declarations::ElabFault;
 use icl_frames::{Stretch, is_data_in_port, is_input, is_scan_in_port, named_positions, width};
 use icl_lexer::{Bind, Range, Sig, SmallText, What};
@@ -37,14 +37,36 @@ pub(crate) struct Bound {
     pub refs: Runs<Ref>,
 }
 
-/// The bindings of an instance, in the order of the text. Whether a bit is bound, and to what, is found
+/// The bindings of an instance, in the order of the text, while more come. Whether a bit is bound is found
 /// without a search.
+///
+/// Contracts see the list of the bindings.
+#[derive(Drop)]
+pub struct OpenBindings {
+    bounds: Vec<Bound>,
+    rows: Vec<Row>,
+}
+
+impl Model for OpenBindings {
+    ghost use Rattle.std.specs.Prelude.{List, map};
+    ghost use Rattle.icl_elab.specs.Bindings.{Bound};
+    ghost use Rattle.icl_elab.specs.Marks.{AreMarked, seen_bound};
+
+    ghost Value = { List Bound };
+
+    ghost view = { λ b. map seen_bound b.bounds.items };
+
+    ghost invariant = { λ b. AreMarked b.rows.items (map seen_bound b.bounds.items) };
+}
+
+/// The bindings of an instance, in the order of the text. What a bit is bound to is found without a search of
+/// all of them.
 ///
 /// Contracts see the list of the bindings.
 #[derive(Drop)]
 pub struct Bindings {
     bounds: Vec<Bound>,
-    rows: Vec<Row>,
+    rows: Vec<ClosedRow>,
 }
 
 impl Model for Bindings {
@@ -59,27 +81,36 @@ impl Model for Bindings {
     ghost invariant = { λ b. AreMarked b.rows.items (map seen_bound b.bounds.items) };
 }
 
-impl Bindings {
+impl OpenBindings {
     /// No bindings. Takes no memory.
-    pub fn new(alloc: Global) -> Bindings
+    fn new(alloc: Global) -> OpenBindings
         ensures { result ≡ [] }
     {
-        Bindings {
+        OpenBindings {
             bounds: Vec::new(alloc),
             rows: Vec::new(alloc),
         }
     }
 
     /// The bindings with one more.
-    pub(crate) fn with(self, alloc: Global, bound: Bound) -> Result<Bindings, ElabFault>
+    fn with(self, alloc: Global, bound: Bound) -> Result<OpenBindings, ElabFault>
         ensures ok { IfOk result (λ b. b ≡ self ++ seen_bound bound ∷ []) }
         ensures told { IfErr result (λ e. e ≡ ElabFault.OutOfMemory) }
     {
-        let Bindings { bounds, rows } = self;
+        let OpenBindings { bounds, rows } = self;
         let mut bounds = bounds;
         let mut rows = rows;
         note(alloc, &mut rows, bound.part, bound.stretch, bounds.len())?;
         bounds.push(bound)?;
+        Ok(OpenBindings { bounds, rows })
+    }
+
+    /// The bindings, to which no more come.
+    pub(crate) fn closed(self, alloc: Global) -> Result<Bindings, OutOfMemory>
+        ensures { IfOk result (λ b. b ≡ self) }
+    {
+        let OpenBindings { bounds, rows } = self;
+        let rows = closed_rows(alloc, &rows)?;
         Ok(Bindings { bounds, rows })
     }
 
@@ -136,6 +167,57 @@ impl Bindings {
         true
     }
 
+    /// Whether a part is bound at all of its bits, or at none.
+    fn is_whole(&self, m: &Member) -> bool
+        ensures { result ≡ is_whole_part self.now (seen_member m.now) }
+    {
+        !self.binds(m.part) || self.binds_all(m.part, width(m.bounds) as usize)
+    }
+
+    /// Whether each part is bound at all of its bits, or at none.
+    pub(crate) fn are_whole(&self, members: &[Member]) -> bool
+        ensures { result ≡ list_all (is_whole_part self.now) (map seen_member members.now) }
+    {
+        for m in members {
+            if !self.is_whole(m) {
+                return false;
+            }
+        }
+        true
+    }
+}
+
+impl Bindings {
+    /// No bindings. Takes no memory.
+    pub fn new(alloc: Global) -> Bindings
+        ensures { result ≡ [] }
+    {
+        Bindings {
+            bounds: Vec::new(alloc),
+            rows: Vec::new(alloc),
+        }
+    }
+
+    /// The number of the binding of a bit, if there is one.
+    fn number_of(&self, part: u32, pos: usize) -> Option<usize>
+        ensures { result ≡ position_from (binds_bit part pos) 0 self.now }
+    {
+        let part = part as usize;
+        if part < self.rows.len() {
+            self.rows[part].get(pos)
+        } else {
+            None
+        }
+    }
+
+    /// Whether a port is bound somewhere.
+    fn binds(&self, part: u32) -> bool
+        ensures { result ≡ list_any (λ b. b.part == part) self.now }
+    {
+        let part = part as usize;
+        part < self.rows.len() && !self.rows[part].is_empty()
+    }
+
     /// What a bit is bound to: 0 where it isn't bound.
     fn ref_at(&self, part: u32, pos: usize) -> Ref
         ensures { result ≡ ref_at self.now part pos }
@@ -171,25 +253,6 @@ impl Bindings {
             refs.push(self.ref_at(part, pos))?;
         }
         Ok(refs)
-    }
-
-    /// Whether a part is bound at all of its bits, or at none.
-    fn is_whole(&self, m: &Member) -> bool
-        ensures { result ≡ is_whole_part self.now (seen_member m.now) }
-    {
-        !self.binds(m.part) || self.binds_all(m.part, width(m.bounds) as usize)
-    }
-
-    /// Whether each part is bound at all of its bits, or at none.
-    pub(crate) fn are_whole(&self, members: &[Member]) -> bool
-        ensures { result ≡ list_all (is_whole_part self.now) (map seen_member members.now) }
-    {
-        for m in members {
-            if !self.is_whole(m) {
-                return false;
-            }
-        }
-        true
     }
 }
 
@@ -289,7 +352,7 @@ fn bound_in(
     tables: &Tables,
     here: u32,
     child: u32,
-    bindings: &Bindings,
+    bindings: &OpenBindings,
     at: Place,
     name: &SmallText,
     range: &Option<Range>,
@@ -328,9 +391,9 @@ pub(crate) fn bind(
     tables: &Tables,
     here: u32,
     child: u32,
-    bindings: Bindings,
+    bindings: OpenBindings,
     binding: &Bind,
-) -> Result<Bindings, ElabFault>
+) -> Result<OpenBindings, ElabFault>
     requires here { IsHere tables.now here }
     requires child { IsHere tables.now child }
     ensures { Gives same result (bind (frames_of tables.now) (here_in tables.now here)
@@ -368,13 +431,13 @@ pub(crate) fn bind_all(
     here: u32,
     child: u32,
     binds: &[Bind],
-) -> Result<Bindings, ElabFault>
+) -> Result<OpenBindings, ElabFault>
     requires here { IsHere tables.now here }
     requires child { IsHere tables.now child }
     ensures { Gives same result (over (bind (frames_of tables.now) (here_in tables.now here)
         (here_in tables.now child).frame) [] (map seen_bind binds.now)) }
 {
-    let mut bindings = Bindings::new(alloc);
+    let mut bindings = OpenBindings::new(alloc);
     for binding in binds {
         bindings = bind(alloc, tables, here, child, bindings, binding)?;
     }

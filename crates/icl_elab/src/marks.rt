@@ -1,11 +1,12 @@
 // Which binding binds each bit of a port.
 ghost use Rattle.std.specs.Prelude.{◌≡◌, ℕ, ◌<◌, ◌≤◌, nat_le, nat_lt, ◌==◌, ◌&&◌, ◌||◌, not, cond, []};
-ghost use Rattle.std.specs.Prelude.{length, vec_len, Some, None, true, OnOk, ◌+◌};
+ghost use Rattle.std.specs.Prelude.{length, vec_len, Some, None, true, IfOk, OnOk, ◌+◌, ◌-◌, ◌^◌, refl};
 ghost use Rattle.ij_text.specs.Options.{or_else};
 ghost use Rattle.icl_elab.specs.Marks.{has_marks, mark_at, row_at};
 
 use icl_frames::Stretch;
 use ij_bits::OutOfMemory;
+use ij_runs::{Follow, Runs};
 use std::alloc::Global;
 use std::marker::Model;
 
@@ -90,6 +91,97 @@ impl Row {
         }
         Ok(())
     }
+}
+
+/// The number of a binding, or none.
+#[derive(Clone, Copy, Drop)]
+pub(crate) struct Mark {
+    number: Option<usize>,
+}
+
+/// After a mark comes the same one.
+impl Follow for Mark {
+    ghost after = { λ n m. m };
+
+    ghost room = { λ m. 2 ^ 32 - 1 };
+
+    ghost stays = { λ m. refl };
+
+    ghost composes = { λ a b m. refl };
+
+    fn after(self, _n: u32) -> Mark {
+        self
+    }
+
+    fn reaches(self, _n: u32) -> bool {
+        true
+    }
+
+    fn is_after(self, _n: u32, value: Mark) -> bool {
+        match (self.number, value.number) {
+            (Some(a), Some(b)) => a == b,
+            (None, None) => true,
+            _ => false,
+        }
+    }
+}
+
+/// A row to which nothing is added: it takes the memory of the stretches that are bound, not of their bits.
+#[derive(Drop)]
+pub(crate) struct ClosedRow {
+    marks: Runs<Mark>,
+}
+
+impl Model for ClosedRow {
+    ghost use Rattle.std.specs.Prelude.{ℕ, List, Option, map};
+
+    ghost Value = { List (Option ℕ) };
+
+    ghost view = { λ r. map (λ m. m.number) r.marks.items };
+}
+
+impl Row {
+    /// The row as one to which nothing is added.
+    pub(crate) fn closed(&self, alloc: Global) -> Result<ClosedRow, OutOfMemory>
+        ensures { IfOk result (λ r. r ≡ self.now) }
+    {
+        let mut marks = Runs::new(alloc);
+        for number in &self.numbers {
+            marks.push(Mark { number: *number })?;
+        }
+        Ok(ClosedRow { marks })
+    }
+}
+
+impl ClosedRow {
+    /// Whether nothing was noted.
+    pub(crate) fn is_empty(&self) -> bool
+        ensures { result ≡ not (has_marks self.now) }
+    {
+        self.marks.len() == 0
+    }
+
+    /// The number of the binding of a position, if there is one.
+    pub(crate) fn get(&self, pos: usize) -> Option<usize>
+        ensures { result ≡ mark_at self.now pos }
+    {
+        if pos < self.marks.len() {
+            self.marks.get(pos).number
+        } else {
+            None
+        }
+    }
+}
+
+/// Rows to which nothing is added.
+pub(crate) fn closed_rows(alloc: Global, rows: &[Row]) -> Result<Vec<ClosedRow>, OutOfMemory>
+    ensures { IfOk result (λ all. all.items ≡ rows.now) }
+{
+    let mut all = Vec::new(alloc);
+    for row in rows {
+        all.push(row.closed(alloc)?)?;
+    }
+    Ok(all)
 }
 
 /// Makes room for this many parts.

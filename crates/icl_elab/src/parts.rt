@@ -71,6 +71,7 @@ fn instance_found(
     if !bound.are_whole(tables.members(child)) {
         return Err(ElabFault::WidthDiffers { at });
     }
+    let bound = bound.closed(alloc)?;
     Ok(Found {
         body: Body::Child { cell: child },
         words: List::new(alloc),

@@ -4,8 +4,8 @@ use crate::texts::{Shown, read};
 use icl_elab::{Body, Cell, Hier, Part, Ref, elaborate};
 use icl_lexer::Design;
 use ij_bits::{List, Tern};
-use ij_runs::Runs;
 use ij_io::Word;
+use ij_runs::Runs;
 use ij_text::{Name, name_of};
 use std::alloc::Global;
 

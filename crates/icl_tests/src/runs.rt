@@ -83,7 +83,10 @@ const REFUSED: [(u32, u32); 2] = [(u32::MAX, 2), (0, u32::MAX)];
 fn what_cannot_be_counted_is_refused(rt: HostRuntime) -> Result<(), OutOfMemory> {
     let mut runs = three_runs(rt.alloc())?;
     for (pos, count) in &REFUSED {
-        assert!(&rt; runs.push_run(bit(1, *pos), *count).is_err(), "{count} bits from {pos}");
+        assert!(&rt;
+            runs.push_run(bit(1, *pos), *count).is_err(),
+            "{count} bits from {pos}"
+        );
     }
     let mut shown = Shown::new(rt.alloc());
     show_all(&mut shown, &runs);

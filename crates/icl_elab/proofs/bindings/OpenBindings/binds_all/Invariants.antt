@@ -1,7 +1,7 @@
 use Rattle.std.proofs.Common.{◌≡◌, ◌-◌}
 use Rattle.std.specs.List.{list_all, range_with_len}
 use Rattle.icl_elab.specs.Bindings.{is_bound}
-use Rattle.icl_elab.proofs.bindings.Bindings.binds_all.Given as goal
+use Rattle.icl_elab.proofs.bindings.OpenBindings.binds_all.Given as goal
 
 abbrev pub invariant-loop-pos : goal.invariant-loop-pos
 invariant-loop-pos l = list_all (is_bound l.self l.part) (range_with_len l.pos (l.wide - l.pos))

@@ -2,7 +2,7 @@ use Rattle.std.proofs.Common.{◌∙◌, ◌+◌, ◌-◌, ◌&&◌, sym, ap}
 use Rattle.std.specs.List.{list_all, range_with_len}
 use Rattle.icl_elab.specs.Bindings.{is_bound}
 use Rattle.icl_elab.proofs.Bound.{all_step}
-use Rattle.icl_elab.proofs.bindings.Bindings.binds_all.Goals as goal
+use Rattle.icl_elab.proofs.bindings.OpenBindings.binds_all.Goals as goal
 
 pub loop-pos-preserved : goal.loop-pos-preserved
 loop-pos-preserved c =

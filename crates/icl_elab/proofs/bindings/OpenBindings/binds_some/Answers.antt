@@ -2,7 +2,7 @@ use Rattle.std.proofs.Common.{◌∙◌, ◌+◌, ◌-◌, ◌||◌, sym, ap}
 use Rattle.std.specs.List.{list_any, range_with_len}
 use Rattle.icl_elab.specs.Bindings.{is_bound}
 use Rattle.icl_elab.proofs.Bound.{any_step}
-use Rattle.icl_elab.proofs.bindings.Bindings.binds_some.Goals as goal
+use Rattle.icl_elab.proofs.bindings.OpenBindings.binds_some.Goals as goal
 
 pub loop-k-preserved : goal.loop-k-preserved
 loop-k-preserved c =

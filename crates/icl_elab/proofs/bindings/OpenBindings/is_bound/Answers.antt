@@ -2,7 +2,7 @@ use Rattle.std.proofs.Common.{◌∙◌, ap}
 use Rattle.std.specs.Prelude.{is_some}
 use Rattle.icl_elab.proofs.Bound.{any_position}
 use Rattle.icl_elab.specs.Bindings.{binds_bit}
-use Rattle.icl_elab.proofs.bindings.Bindings.is_bound.Goals as goal
+use Rattle.icl_elab.proofs.bindings.OpenBindings.is_bound.Goals as goal
 
 pub returns : goal.returns
 returns c = c.is_some.ensures ∙ ap is_some c.number_of.ensures

@@ -6,7 +6,7 @@ use Rattle.ij_text.specs.Options.{or_else}
 use Rattle.icl_elab.proofs.Bound.{position_push, any_push}
 use Rattle.icl_elab.specs.Bindings.{Bound, binds_bit}
 use Rattle.icl_elab.specs.Marks.{seen_bound}
-use Rattle.icl_elab.proofs.bindings.Bindings.with.Goals as goal
+use Rattle.icl_elab.proofs.bindings.OpenBindings.with.Goals as goal
 
 pub invariant_of-result : goal.invariant_of-result
 invariant_of-result c =
