@@ -13,6 +13,7 @@ import tempfile
 SOURCE_LIMIT = 16_777_216
 SVF_LIMIT = 134_217_728
 GROUP_LIMIT = 4096
+LEVELS = 3
 FLAT = pathlib.Path('examples/flat').resolve()
 MERGE = pathlib.Path('examples/merge').resolve()
 REPORT = b'register net.R 0101\nscans 2 clocks 29 differs 0\n'
@@ -197,6 +198,20 @@ with tempfile.TemporaryDirectory() as folder:
     report = b''.join(packets)
     check('its lines', report.count(b'\n'), 262_146)
     check('its writes are large', len(packets) <= len(report) // 4096 + len(report) // 8192 + 2, True)
+    # a text of 1 kB that has a tower of wide ports asks for less than 100 MB
+    wide = 'DataInPort p[65535:0]; '
+    tower = f'Module A0 {{ {wide}DataOutPort q[65535:0] {{ Source p; }} }}\n'
+    for level in range(1, LEVELS + 1):
+        tower += f'Module A{level} {{ {wide}' + ''.join(f'Instance {it} Of A{level - 1} {{ InputPort p = p; }} ' for it in 'abcde') + '}\n'
+    flat = (FLAT / 'chip.icl').read_text()
+    icl.write_text(tower + flat.replace('Module Net {', f'Module Net {{ Instance tower Of A{LEVELS};', 1))
+    check('what is before a tower', f'Of A{LEVELS};' in icl.read_text(), True)
+    check('the bytes of a tower', len(tower) < 1024, True)
+    words = [program, 'compile', icl, FLAT / 'chip.pdl', FLAT / 'chip.dev', 'chip', 'p', folder / 'tower.svf']
+    _, status, used = os.wait4(os.posix_spawn(program, [*map(str, words)], os.environ), 0)
+    check('a tower of wide ports', status, 0)
+    check('its memory in MB', used.ru_maxrss // 1000 if used.ru_maxrss >= 100_000 else 0, 0)
+
 
 for line in failed:
     print(line)
