@@ -118,6 +118,22 @@ with tempfile.TemporaryDirectory() as folder:
           (0, rows + 1, f'muxtest scans {2 * rows - 1} rows {rows} unseen {rows}'.encode(), b''))
     check('its processor seconds are few', resource.getrusage(resource.RUSAGE_CHILDREN).ru_utime - before < 20, True)
 
+    # an alias of this many registers of one bit, written and read by each of many iApplys: four times the registers take some
+    # four times as long, and not sixteen times
+    taken = []
+    for bits in (1024, 4096):
+        rows = ''.join(f'  ScanRegister R{i} {{ ScanInSource {f"R{i - 1}" if i else "SI"}; CaptureSource R{i}; ResetValue 1\'b0; }}\n'
+                       for i in range(bits))
+        icl.write_text(f'Module Row {{\n  ScanInPort SI; ScanOutPort SO {{ Source R{bits - 1}; }}\n  ScanInterface client {{ Port SI; Port SO; }}\n'
+                       f'{rows}  Alias all[{bits - 1}:0] = {", ".join(f"R{i}" for i in range(bits))};\n}}\n'
+                       'Module chip {\n  Instance net Of Row;\n  AccessLink tap Of STD_1149_1_2001 {\n'
+                       '    BSDLEntity chip; IJTAG { ScanInterface { net.client; } }\n  }\n}\n')
+        pdl.write_text('iProcsForModule chip\niProc p {} {\n' + '  iWrite net.all 0x5A\n  iRead net.all 0\n  iApply\n' * 256 + '}\n')
+        before = resource.getrusage(resource.RUSAGE_CHILDREN).ru_utime
+        check(f'an alias of {bits} registers', run(['compile', icl, pdl, FLAT / 'chip.dev', 'chip', 'p', folder / 'alias.svf']), (0, b'', b''))
+        taken.append(resource.getrusage(resource.RUSAGE_CHILDREN).ru_utime - before)
+    check('their time grows as they do', taken[1] < 8 * taken[0], True)
+
     # an explained text of exactly the limit can be read again, and one byte more is too long
     count_of_scans, note = 1_800_000, '\n!: scan {} path 4\n!:   3..0 net.R[3:0] writes 0101'
     notes = len('\n!: scan 1 instruction A0 network') + sum(len(note.format(n)) for n in range(2, count_of_scans + 2)) + (count_of_scans - 1) * len(' as before')

@@ -57,7 +57,7 @@ LATER = {('mux_test', 'no_line_end'), ('mux_test', 'in_names'), ('mux_test', 'na
          ('net_graph', 'length-shift'), ('net_graph', 'some_mux'), ('svf_notes', 'on_both'), ('svf_notes', 'four_digits'), ('svf_notes', 'split_first'), ('svf_notes', 'split_last'),
          ('net_wave', 'first'), ('net_wave', 'is_itself'), ('net_wave', 'not_tck'), ('net_wave', 'words_narrow'),
          ('tap_machine', 'digit_le'), ('tap_machine', 'half_is'), ('tap_machine', 'bits_of-number_of'), ('tap_machine', 'bits_of_none'),
-         ('net_bench', 'same_self'), ('net_bench', 'is_one'), ('ij_text', 'bits_split')}
+         ('net_bench', 'same_self'), ('net_bench', 'is_one'), ('ij_text', 'bits_split'), ('ijtag_work', 'adds_as'), ('ijtag_work', 'part_as')}
 
 
 def main():

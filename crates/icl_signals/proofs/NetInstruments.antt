@@ -22,10 +22,9 @@ use Rattle.net_graph.specs.Named.{IsInputOf}
 use Rattle.net_graph.specs.Nets.{IsInst}
 use Rattle.icl_signals.specs.declared.wires.Wire.{Wire}
 use Rattle.icl_signals.specs.Moves.{Entry}
-use Rattle.icl_signals.specs.PlainNets.{OutputOf, seen_input, seen_output, seen_inst}
 use Rattle.icl_signals.specs.Connecting.{instruments, parts_that, own_bits, output_of, input_from, input_of}
 use Rattle.icl_signals.specs.Connecting.{instrument_of}
-use Rattle.icl_signals.proofs.Paired.{paired_length, paired_maps, paired_all, each_paired, each_itself}
+use Rattle.icl_signals.proofs.Paired.{paired_length, paired_maps, paired_all, each_paired}
 use Rattle.icl_signals.proofs.Paired.{mapped_paired, all_at, all_kept, all_passing, all_and}
 use Rattle.icl_signals.proofs.ApartItems.{Apart, apart_kept, apart_weaker, apart_of_map, apart_in_map}
 use Rattle.icl_signals.proofs.ApartItems.{apart_different, different_apart, in_kept, known_numbers}
@@ -116,13 +115,13 @@ module _ (cells : List CellOf) (entry : Wire) (net : Net) (shaped : IsShaped cel
 
   input_good : (cell : ℕ) (c : CellOf) → slice_get cells cell ≡ Some c
       → HasFewPorts c → (p : ℕ × PartOf) (port : PortIn)
-      → IsPortAt is_data_in c p → input_of cells entry cell p ≡ Ok (seen_input port) → IsInputPort port
+      → IsPortAt is_data_in c p → input_of cells entry cell p ≡ Ok port → IsInputPort port
   input_good cell c at few p port k h =
       let i = input_is cells entry cell p port h in
       let e : Entry = record { cell = cell; part = p.0; what = p.1 } in
       let there : part_at cells cell p.0 ≡ Some p.1 = ap (λ (o : Option CellOf). part_of o p.0) at ∙ k.0 in
       let R = λ (r : Ref) (s : Sig). input_from cells entry p.1.at r ≡ Ok s in
-      let bits = each_itself (input_from cells entry p.1.at) (own_bits e) port.bits.items i.bits in
+      let bits = each_paired (input_from cells entry p.1.at) (own_bits e) port.bits.items i.bits in
       let long = paired_length R (own_bits e) port.bits.items bits in
       let own = length_own e in
       let wide = port_width is_data_in input_port c few p k in (
@@ -135,16 +134,16 @@ module _ (cells : List CellOf) (entry : Wire) (net : Net) (shaped : IsShaped cel
 
   pub instrument_good : (c : ℕ × CellOf) (inst : Inst)
       → (slice_get cells c.0 ≡ Some c.1) × (is_instrument c.1 ≡ true)
-      → instrument_of cells entry c ≡ Ok (seen_inst inst) → IsInst net inst
+      → instrument_of cells entry c ≡ Ok inst → IsInst net inst
   instrument_good c inst k h =
       let i = instrument_is cells entry c inst h in
       let cell = all_at IsCell cells c.0 c.1 named k.0 in
       let few = cell.ports k.1 in
-      let R = λ (p : ℕ × PartOf) (port : PortIn). input_of cells entry c.0 p ≡ Ok (seen_input port) in
-      let S = λ (p : ℕ × PartOf) (port : PortOut). output_of p ≡ seen_output port in
-      let ins = each_paired (input_of cells entry c.0) seen_input
+      let R = λ (p : ℕ × PartOf) (port : PortIn). input_of cells entry c.0 p ≡ Ok port in
+      let S = λ (p : ℕ × PartOf) (port : PortOut). output_of p ≡ port in
+      let ins = each_paired (input_of cells entry c.0)
       (parts_that is_data_in c.1) inst.ins.items i.ins in
-      let outs = mapped_paired output_of seen_output (parts_that is_data_out c.1) inst.outs.items i.outs in
+      let outs = mapped_paired output_of (parts_that is_data_out c.1) inst.outs.items i.outs in
       let ins_long = paired_length R (parts_that is_data_in c.1) inst.ins.items ins in
       let outs_long = paired_length S (parts_that is_data_out c.1) inst.outs.items outs in
       let ins_are = length_parts is_data_in c.1 in
@@ -163,7 +162,7 @@ module _ (cells : List CellOf) (entry : Wire) (net : Net) (shaped : IsShaped cel
             (parts_that is_data_in c.1) inst.ins.items (ports_known is_data_in c.1) ins);
         outputs = All-from_recursion (λ (port : PortOut). port.width ≤ 64) inst.outs.items
             (paired_all (IsPortAt is_data_out c.1) S (λ (port : PortOut). port.width ≤ 64)
-            (λ p port g e. subst (λ (n : ℕ). n ≤ 64) (ap (λ (x : OutputOf). x.width) e)
+            (λ p port g e. subst (λ (n : ℕ). n ≤ 64) (ap (λ (x : PortOut). x.width) e)
             (port_width is_data_out output_port c.1 few p g))
             (parts_that is_data_out c.1) inst.outs.items (ports_known is_data_out c.1) outs);
         input_names =
@@ -173,7 +172,8 @@ module _ (cells : List CellOf) (entry : Wire) (net : Net) (shaped : IsShaped cel
             (port_names is_data_in input_thing c.1 cell);
         output_names =
             subst AreDifferent (paired_maps S (λ p. p.1.name) (λ port. port.name.items)
-            (λ p port e. ap (λ (x : OutputOf). x.name) e) (parts_that is_data_out c.1) inst.outs.items outs)
+            (λ p port e. ap (λ (x : PortOut). x.name.items) e) (parts_that is_data_out c.1)
+            inst.outs.items outs)
             (port_names is_data_out output_thing c.1 cell);
       }
 
@@ -183,10 +183,10 @@ pub instruments_good : (cells : List CellOf) (net : Net) (n : IsNetOf cells net)
 instruments_good cells net n shaped wired named =
     All-from_recursion (IsInst net) net.insts.items
     (paired_all (λ (c : ℕ × CellOf). (slice_get cells c.0 ≡ Some c.1) × (is_instrument c.1 ≡ true))
-    (λ (c : ℕ × CellOf) (i : Inst). instrument_of cells n.entry c ≡ Ok (seen_inst i)) (IsInst net)
+    (λ (c : ℕ × CellOf) (i : Inst). instrument_of cells n.entry c ≡ Ok i) (IsInst net)
     (instrument_good cells n.entry net shaped wired named)
     (instruments cells) net.insts.items (all_instruments_known cells)
-    (each_paired (instrument_of cells n.entry) seen_inst (instruments cells) net.insts.items n.insts))
+    (each_paired (instrument_of cells n.entry) (instruments cells) net.insts.items n.insts))
 
 -- no node is two instruments
 pub instrument_nodes : (cells : List CellOf) (net : Net) (n : IsNetOf cells net)
@@ -194,9 +194,9 @@ pub instrument_nodes : (cells : List CellOf) (net : Net) (n : IsNetOf cells net)
 instrument_nodes cells net n =
     subst AreDifferent
     (paired_maps (λ (c : ℕ × CellOf) (i : Inst). instrument_of cells n.entry c
-    ≡ Ok (seen_inst i)) (λ c. c.0) (λ i. i.node)
+    ≡ Ok i) (λ c. c.0) (λ i. i.node)
     (λ c i h. (instrument_is cells n.entry c i h).node) (instruments cells) net.insts.items
-    (each_paired (instrument_of cells n.entry) seen_inst (instruments cells) net.insts.items n.insts))
+    (each_paired (instrument_of cells n.entry) (instruments cells) net.insts.items n.insts))
     (apart_different (map (λ (c : ℕ × CellOf). c.0) (instruments cells))
     (apart_of_map (λ (c : ℕ × CellOf). c.0) (λ a b. a ≡ b → ⊥) (instruments cells)
     (apart_weaker (λ (p q : ℕ × CellOf). p.0 < q.0) (λ p q. p.0 ≡ q.0

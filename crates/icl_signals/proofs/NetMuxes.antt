@@ -21,10 +21,9 @@ use Rattle.net_graph.specs.Named.{IsBitOf}
 use Rattle.net_graph.specs.Nets.{IsRow, IsMux}
 use Rattle.icl_signals.specs.declared.wires.Wire.{Wire}
 use Rattle.icl_signals.specs.Moves.{Entry}
-use Rattle.icl_signals.specs.PlainNets.{seen_row, seen_mux}
 use Rattle.icl_signals.specs.Connecting.{entries_that, select_from, row_from, mux_of}
 use Rattle.icl_signals.proofs.Joined.{part_wired}
-use Rattle.icl_signals.proofs.Paired.{paired_length, paired_maps, paired_all, each_paired, each_itself}
+use Rattle.icl_signals.proofs.Paired.{paired_length, paired_maps, paired_all, each_paired}
 use Rattle.icl_signals.proofs.Paired.{all_and, all_in_map, all_weaker}
 use Rattle.icl_signals.proofs.EntryNumbers.{IsKept, all_kept_known}
 use Rattle.icl_signals.proofs.NetParts.{IsNetOf, mux_is, row_is}
@@ -39,7 +38,7 @@ module _ (cells : List CellOf) (entry : Wire) (net : Net) (shaped : IsShaped cel
   IsWideRow width c = IsChoice (IsRefOf cells) width c × (1 ≤ length c.values)
 
   row_good : (at : Place) (width : ℕ) (c : Choice) (row : Row) → IsWideRow width c
-      → row_from cells entry at c ≡ Ok (seen_row row)
+      → row_from cells entry at c ≡ Ok row
       → IsRow net width row
   row_good at width c row k h =
       let r = row_is cells entry at c row h in
@@ -58,7 +57,7 @@ module _ (cells : List CellOf) (entry : Wire) (net : Net) (shaped : IsShaped cel
       }
 
   pub mux_good : (e : Entry) (mux : Mux) → IsKept cells is_mux e
-      → mux_of cells entry e ≡ Ok (seen_mux mux) → IsMux net mux
+      → mux_of cells entry e ≡ Ok mux → IsMux net mux
   mux_good e mux k h =
       let m = mux_is cells entry e mux h in
       let part = part_wired cells wired e.cell e.part e.what k.0 in
@@ -67,9 +66,9 @@ module _ (cells : List CellOf) (entry : Wire) (net : Net) (shaped : IsShaped cel
       let names = part_named cells named e.cell e.part e.what k.0 in
       let has : HasRows (AScanMux m.select m.rows) = subst HasRows m.role names.rows in
       let R = λ (r : Ref) (b : BitId). select_from cells entry e.what.at r ≡ Ok b in
-      let S = λ (c : Choice) (row : Row). row_from cells entry e.what.at c ≡ Ok (seen_row row) in
-      let bits = each_itself (select_from cells entry e.what.at) m.select mux.select.items m.bits in
-      let rows = each_paired (row_from cells entry e.what.at) seen_row m.rows mux.rows.items m.sources in
+      let S = λ (c : Choice) (row : Row). row_from cells entry e.what.at c ≡ Ok row in
+      let bits = each_paired (select_from cells entry e.what.at) m.select mux.select.items m.bits in
+      let rows = each_paired (row_from cells entry e.what.at) m.rows mux.rows.items m.sources in
       let width = paired_length R m.select mux.select.items bits in
       let long = paired_length S m.rows mux.rows.items rows in
       let at_least_one_bit = has.0 in
@@ -104,7 +103,7 @@ pub muxes_good : (cells : List CellOf) (net : Net) (n : IsNetOf cells net)
 muxes_good cells net n shaped wired named =
     All-from_recursion (IsMux net) net.muxes.items
     (paired_all (IsKept cells is_mux)
-    (λ (e : Entry) (m : Mux). mux_of cells n.entry e ≡ Ok (seen_mux m)) (IsMux net)
+    (λ (e : Entry) (m : Mux). mux_of cells n.entry e ≡ Ok m) (IsMux net)
     (mux_good cells n.entry net shaped wired named)
     (entries_that is_mux cells) net.muxes.items (all_kept_known cells is_mux)
-    (each_paired (mux_of cells n.entry) seen_mux (entries_that is_mux cells) net.muxes.items n.muxes))
+    (each_paired (mux_of cells n.entry) (entries_that is_mux cells) net.muxes.items n.muxes))

@@ -16,12 +16,12 @@ use Rattle.icl_references.specs.Roles.{CellOf}
 use Rattle.net_graph.specs.declared.net.Net.{Net}
 use Rattle.net_graph.specs.declared.net.Node.{Node}
 use Rattle.net_graph.specs.Nets.{path_of}
-use Rattle.icl_signals.specs.PlainNets.{NodeOf, seen_node}
 use Rattle.icl_signals.specs.Connecting.{path_with, paths_from, node_of}
 use Rattle.icl_signals.proofs.Paired.{paired_maps, mapped_paired, all_and, all_weaker, all_in_map, at_place}
 use Rattle.icl_signals.proofs.ApartItems.{Apart, apart_at, apart_of_map, apart_in_map, apart_different}
 use Rattle.icl_signals.proofs.ApartItems.{different_apart, numbers_rise, known_numbers}
 use Rattle.icl_signals.proofs.NetParts.{IsNetOf}
+use Rattle.icl_signals.proofs.OneNumber.{path_had}
 use Rattle.ij_bits.proofs.Everywhere.{all_one}
 use Rattle.std.proofs.lemmas.Option.{same_Some, slice_get_within}
 use Rattle.ij_bits.proofs.Lists.{head_same, tail_same}
@@ -264,9 +264,9 @@ module _ (cells : List CellOf) (h : IsHierarchy cells) where
     paths_are : map path_of net.nodes.items ≡ all_paths
     paths_are =
         sym (paired_maps (λ (c : ℕ × CellOf) (node : Node). node_of all_paths c
-        ≡ seen_node node) (λ c. path_at c.0) path_of
-        (λ c node e. ap (λ (x : NodeOf). x.path) e) (enumerate_from 0 cells) net.nodes.items
-        (mapped_paired (node_of all_paths) seen_node (enumerate_from 0 cells) net.nodes.items n.nodes))
+        ≡ node) (λ c. path_at c.0) path_of
+        (λ c node e. sym (path_had (path_at c.0)) ∙ ap path_of e) (enumerate_from 0 cells) net.nodes.items
+        (mapped_paired (node_of all_paths) (enumerate_from 0 cells) net.nodes.items n.nodes))
         ∙ by_number
 
     known_rise : (s : ℕ) (cs : List CellOf)

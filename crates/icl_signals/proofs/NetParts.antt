@@ -1,6 +1,7 @@
 -- The network of a hierarchy, part by part.
-use Rattle.std.proofs.Common.{◌≡◌, ℕ, List, map, Option, Ok, refl, ap, ◌∙◌}
+use Rattle.std.proofs.Common.{◌≡◌, ℕ, List, map, Option, Ok, refl, sym, ap, ◌∙◌}
 use Rattle.ij_text.specs.declared.Place.{Place}
+use Rattle.ij_bits.specs.Room.{full}
 use Rattle.ij_text.specs.Numbers.{tern_bits}
 use Rattle.icl_declarations.specs.Faults.{each}
 use Rattle.icl_declarations.specs.Values.{OpenBits}
@@ -18,14 +19,13 @@ use Rattle.net_graph.specs.declared.net.Row.{Row}
 use Rattle.net_graph.specs.declared.net.Thing.{Thing}
 use Rattle.icl_signals.specs.declared.wires.Wire.{Wire}
 use Rattle.icl_signals.specs.Moves.{Entry}
-use Rattle.icl_signals.specs.PlainNets.{RegisterOf, RowOf, MuxOf, InputOf, InstrumentOf, ThingOf, NetOf}
-use Rattle.icl_signals.specs.PlainNets.{seen_reg, seen_row, seen_mux, seen_input, seen_output, seen_inst}
-use Rattle.icl_signals.specs.PlainNets.{seen_node, seen_thing, seen_net}
+use Rattle.icl_signals.specs.OpenNumbers.{tern_of}
 use Rattle.icl_signals.specs.Connecting.{entries_that, number_among, instruments, parts_that, own_bits}
 use Rattle.icl_signals.specs.Connecting.{one_bit_of, resets, output_of, scan_from, scan_source, captures}
 use Rattle.icl_signals.specs.Connecting.{register_from, register_of, select_from, row_from, mux_from, mux_of}
 use Rattle.icl_signals.specs.Connecting.{input_from, input_of, instrument_of, spot_of, refs_of, thing_of}
 use Rattle.icl_signals.specs.Connecting.{nodes_of, ends, network}
+use Rattle.icl_signals.proofs.OneNumber.{bits_back, terns_had, words_had}
 
 pub record IsNetOf (cells : List CellOf) (net : Net) : Type 0 where
   pub entry : Wire
@@ -33,46 +33,46 @@ pub record IsNetOf (cells : List CellOf) (net : Net) : Type 0 where
   pub place : Place
   pub output : scan_from cells entry place (one_bit_of exit.cell exit.part 0) ≡ Ok net.out
   pub regs : each (register_of cells entry) (entries_that is_register cells)
-      ≡ Ok (map seen_reg net.regs.items)
-  pub muxes : each (mux_of cells entry) (entries_that is_mux cells) ≡ Ok (map seen_mux net.muxes.items)
-  pub insts : each (instrument_of cells entry) (instruments cells) ≡ Ok (map seen_inst net.insts.items)
-  pub nodes : nodes_of cells ≡ map seen_node net.nodes.items
-  pub things : map (thing_of cells entry) (entries_that is_thing cells) ≡ map seen_thing net.things.items
+      ≡ Ok net.regs.items
+  pub muxes : each (mux_of cells entry) (entries_that is_mux cells) ≡ Ok net.muxes.items
+  pub insts : each (instrument_of cells entry) (instruments cells) ≡ Ok net.insts.items
+  pub nodes : nodes_of cells ≡ net.nodes.items
+  pub things : map (thing_of cells entry) (entries_that is_thing cells) ≡ net.things.items
 
 pub net_is : (cells : List CellOf) (link instr : List ℕ) (net : Net)
-    → network cells link instr ≡ Ok (seen_net net) → IsNetOf cells net
+    → network cells link instr ≡ Ok net → IsNetOf cells net
 unfolding network
 net_is cells link instr net h =
-    let e = both (ends cells link instr) _ (seen_net net) h in
+    let e = both (ends cells link instr) _ net h in
     let out = both (scan_from cells e.first.entry e.first.exit_place
     (one_bit_of e.first.exit.cell e.first.exit.part 0)) _
-    (seen_net net) e.then' in
+    net e.then' in
     let regs = both (each (register_of cells e.first.entry) (entries_that is_register cells)) _
-    (seen_net net) out.then' in
+    net out.then' in
     let muxes =
-    both (each (mux_of cells e.first.entry) (entries_that is_mux cells)) _ (seen_net net) regs.then' in
+    both (each (mux_of cells e.first.entry) (entries_that is_mux cells)) _ net regs.then' in
     let insts =
-    both (each (instrument_of cells e.first.entry) (instruments cells)) _ (seen_net net) muxes.then' in
-    let n : NetOf =
+    both (each (instrument_of cells e.first.entry) (instruments cells)) _ net muxes.then' in
+    let n : Net =
     record {
-      regs = regs.first;
-      muxes = muxes.first;
-      insts = insts.first;
+      regs = full regs.first;
+      muxes = full muxes.first;
+      insts = full insts.first;
       out = out.first;
-      nodes = nodes_of cells;
-      things = map (thing_of cells e.first.entry) (entries_that is_thing cells);
+      nodes = full (nodes_of cells);
+      things = full (map (thing_of cells e.first.entry) (entries_that is_thing cells));
     } in
-    let same = ok_is n (seen_net net) insts.then' in
+    let same = ok_is n net insts.then' in
     record {
       entry = e.first.entry;
       exit = e.first.exit;
       place = e.first.exit_place;
-      output = out.is ∙ ap (λ (x : NetOf). Ok x.out) same;
-      regs = regs.is ∙ ap (λ (x : NetOf). Ok x.regs) same;
-      muxes = muxes.is ∙ ap (λ (x : NetOf). Ok x.muxes) same;
-      insts = insts.is ∙ ap (λ (x : NetOf). Ok x.insts) same;
-      nodes = ap (λ (x : NetOf). x.nodes) same;
-      things = ap (λ (x : NetOf). x.things) same;
+      output = out.is ∙ ap (λ (x : Net). Ok x.out) same;
+      regs = regs.is ∙ ap (λ (x : Net). Ok x.regs.items) same;
+      muxes = muxes.is ∙ ap (λ (x : Net). Ok x.muxes.items) same;
+      insts = insts.is ∙ ap (λ (x : Net). Ok x.insts.items) same;
+      nodes = ap (λ (x : Net). x.nodes.items) same;
+      things = ap (λ (x : Net). x.things.items) same;
     }
 
 module _ (cells : List CellOf) (entry : Wire) where
@@ -88,35 +88,37 @@ module _ (cells : List CellOf) (entry : Wire) where
     pub thing : number_among is_thing cells e.cell e.part ≡ reg.thing
 
   pub register_is : (e : Entry) (reg : Reg)
-      → register_of cells entry e ≡ Ok (seen_reg reg) → IsRegisterOf e reg
+      → register_of cells entry e ≡ Ok reg → IsRegisterOf e reg
   unfolding register_of
   register_is e reg h = by_role e.what.role refl h
     where
       by_role : (role : Role) → e.what.role ≡ role
-          → register_from cells entry e role ≡ Ok (seen_reg reg) → IsRegisterOf e reg
+          → register_from cells entry e role ≡ Ok reg → IsRegisterOf e reg
       by_role (AScanRegister scan capture reset) r g =
-          let from = both (scan_source cells entry e.what.at scan) _ (seen_reg reg) g in
+          let from = both (scan_source cells entry e.what.at scan) _ reg g in
           let signals =
-          both (captures cells entry e.what.at (part_width e.what) capture) _ (seen_reg reg) from.then' in
-          let n : RegisterOf =
+          both (captures cells entry e.what.at (part_width e.what) capture) _ reg from.then' in
+          let n : Reg =
           record {
             width = part_width e.what;
             from = from.first;
-            capture = signals.first;
-            reset = resets (part_width e.what) reset;
+            capture = full signals.first;
+            reset = tern_of (resets (part_width e.what) reset);
             thing = number_among is_thing cells e.cell e.part;
           } in
-          let same = ok_is n (seen_reg reg) signals.then' in
+          let same = ok_is n reg signals.then' in
           record {
             scan = scan;
             capture = capture;
             reset = reset;
             role = r;
-            from = from.is ∙ ap (λ (x : RegisterOf). Ok x.from) same;
-            signals = signals.is ∙ ap (λ (x : RegisterOf). Ok x.capture) same;
-            width = ap (λ (x : RegisterOf). x.width) same;
-            values = ap (λ (x : RegisterOf). x.reset) same;
-            thing = ap (λ (x : RegisterOf). x.thing) same;
+            from = from.is ∙ ap (λ (x : Reg). Ok x.from) same;
+            signals = signals.is ∙ ap (λ (x : Reg). Ok x.capture.items) same;
+            width = ap (λ (x : Reg). x.width) same;
+            values =
+                sym (bits_back (resets (part_width e.what) reset))
+                ∙ ap (λ (x : Reg). tern_bits x.reset) same;
+            thing = ap (λ (x : Reg). x.thing) same;
           }
       by_role role r g = absurd cc
 
@@ -125,30 +127,35 @@ module _ (cells : List CellOf) (entry : Wire) where
     pub rows : List Choice
     pub role : e.what.role ≡ AScanMux select rows
     pub bits : each (select_from cells entry e.what.at) select ≡ Ok mux.select.items
-    pub sources : each (row_from cells entry e.what.at) rows ≡ Ok (map seen_row mux.rows.items)
+    pub sources : each (row_from cells entry e.what.at) rows ≡ Ok mux.rows.items
     pub node : e.cell ≡ mux.node
     pub name : e.what.name ≡ mux.name.items
 
-  pub mux_is : (e : Entry) (mux : Mux) → mux_of cells entry e ≡ Ok (seen_mux mux) → IsMuxOf e mux
+  pub mux_is : (e : Entry) (mux : Mux) → mux_of cells entry e ≡ Ok mux → IsMuxOf e mux
   unfolding mux_of
   mux_is e mux h = by_role e.what.role refl h
     where
       by_role : (role : Role) → e.what.role ≡ role
-          → mux_from cells entry e role ≡ Ok (seen_mux mux) → IsMuxOf e mux
+          → mux_from cells entry e role ≡ Ok mux → IsMuxOf e mux
       by_role (AScanMux select rows) r g =
-          let bits = both (each (select_from cells entry e.what.at) select) _ (seen_mux mux) g in
-          let sources = both (each (row_from cells entry e.what.at) rows) _ (seen_mux mux) bits.then' in
-          let n : MuxOf =
-          record { select = bits.first; rows = sources.first; node = e.cell; name = e.what.name } in
-          let same = ok_is n (seen_mux mux) sources.then' in
+          let bits = both (each (select_from cells entry e.what.at) select) _ mux g in
+          let sources = both (each (row_from cells entry e.what.at) rows) _ mux bits.then' in
+          let n : Mux =
+          record {
+            select = full bits.first;
+            rows = full sources.first;
+            node = e.cell;
+            name = full e.what.name;
+          } in
+          let same = ok_is n mux sources.then' in
           record {
             select = select;
             rows = rows;
             role = r;
-            bits = bits.is ∙ ap (λ (x : MuxOf). Ok x.select) same;
-            sources = sources.is ∙ ap (λ (x : MuxOf). Ok x.rows) same;
-            node = ap (λ (x : MuxOf). x.node) same;
-            name = ap (λ (x : MuxOf). x.name) same;
+            bits = bits.is ∙ ap (λ (x : Mux). Ok x.select.items) same;
+            sources = sources.is ∙ ap (λ (x : Mux). Ok x.rows.items) same;
+            node = ap (λ (x : Mux). x.node) same;
+            name = ap (λ (x : Mux). x.name.items) same;
           }
       by_role role r g = absurd cc
 
@@ -157,33 +164,33 @@ module _ (cells : List CellOf) (entry : Wire) where
     pub values : c.values ≡ map tern_bits row.values.items
 
   pub row_is : (at : Place) (c : Choice) (row : Row)
-      → row_from cells entry at c ≡ Ok (seen_row row) → IsRowOf at c row
+      → row_from cells entry at c ≡ Ok row → IsRowOf at c row
   row_is at c row h =
-      let from = both (scan_from cells entry at c.source) _ (seen_row row) h in
-      let n : RowOf = record { values = c.values; from = from.first } in
-      let same = ok_is n (seen_row row) from.then' in
+      let from = both (scan_from cells entry at c.source) _ row h in
+      let n : Row = record { values = full (map tern_of c.values); from = from.first } in
+      let same = ok_is n row from.then' in
       record {
-        from = from.is ∙ ap (λ (x : RowOf). Ok x.from) same;
-        values = ap (λ (x : RowOf). x.values) same;
+        from = from.is ∙ ap (λ (x : Row). Ok x.from) same;
+        values = sym (terns_had c.values) ∙ ap (λ (x : Row). map tern_bits x.values.items) same;
       }
 
   pub record IsInstrumentOf (c : ℕ × CellOf) (inst : Inst) : Type 0 where
     pub node : c.0 ≡ inst.node
-    pub ins : each (input_of cells entry c.0) (parts_that is_data_in c.1) ≡ Ok (map seen_input inst.ins.items)
-    pub outs : map output_of (parts_that is_data_out c.1) ≡ map seen_output inst.outs.items
+    pub ins : each (input_of cells entry c.0) (parts_that is_data_in c.1) ≡ Ok inst.ins.items
+    pub outs : map output_of (parts_that is_data_out c.1) ≡ inst.outs.items
 
   pub instrument_is : (c : ℕ × CellOf) (inst : Inst)
-      → instrument_of cells entry c ≡ Ok (seen_inst inst) → IsInstrumentOf c inst
+      → instrument_of cells entry c ≡ Ok inst → IsInstrumentOf c inst
   unfolding instrument_of
   instrument_is c inst h =
-      let ins = both (each (input_of cells entry c.0) (parts_that is_data_in c.1)) _ (seen_inst inst) h in
-      let n : InstrumentOf =
-      record { node = c.0; ins = ins.first; outs = map output_of (parts_that is_data_out c.1) } in
-      let same = ok_is n (seen_inst inst) ins.then' in
+      let ins = both (each (input_of cells entry c.0) (parts_that is_data_in c.1)) _ inst h in
+      let n : Inst =
+      record { node = c.0; ins = full ins.first; outs = full (map output_of (parts_that is_data_out c.1)) } in
+      let same = ok_is n inst ins.then' in
       record {
-        node = ap (λ (x : InstrumentOf). x.node) same;
-        ins = ins.is ∙ ap (λ (x : InstrumentOf). Ok x.ins) same;
-        outs = ap (λ (x : InstrumentOf). x.outs) same;
+        node = ap (λ (x : Inst). x.node) same;
+        ins = ins.is ∙ ap (λ (x : Inst). Ok x.ins.items) same;
+        outs = ap (λ (x : Inst). x.outs.items) same;
       }
 
   pub record IsInputPortOf (cell : ℕ) (p : ℕ × PartOf) (port : PortIn) : Type 0 where
@@ -192,15 +199,15 @@ module _ (cells : List CellOf) (entry : Wire) where
         (own_bits (record { cell = cell; part = p.0; what = p.1 })) ≡ Ok port.bits.items
 
   pub input_is : (cell : ℕ) (p : ℕ × PartOf) (port : PortIn)
-      → input_of cells entry cell p ≡ Ok (seen_input port) → IsInputPortOf cell p port
+      → input_of cells entry cell p ≡ Ok port → IsInputPortOf cell p port
   input_is cell p port h =
       let bits = both (each (input_from cells entry p.1.at)
-      (own_bits (record { cell = cell; part = p.0; what = p.1 }))) _ (seen_input port) h in
-      let n : InputOf = record { name = p.1.name; bits = bits.first } in
-      let same = ok_is n (seen_input port) bits.then' in
+      (own_bits (record { cell = cell; part = p.0; what = p.1 }))) _ port h in
+      let n : PortIn = record { name = full p.1.name; bits = full bits.first } in
+      let same = ok_is n port bits.then' in
       record {
-        name = ap (λ (x : InputOf). x.name) same;
-        bits = bits.is ∙ ap (λ (x : InputOf). Ok x.bits) same;
+        name = ap (λ (x : PortIn). x.name.items) same;
+        bits = bits.is ∙ ap (λ (x : PortIn). Ok x.bits.items) same;
       }
 
   pub record IsThingOf (e : Entry) (t : Thing) : Type 0 where
@@ -211,14 +218,14 @@ module _ (cells : List CellOf) (entry : Wire) where
     pub bits : map (spot_of cells entry) (refs_of cells entry e e.what.role) ≡ t.bits.items
     pub words : e.what.words ≡ map seen_word t.words.items
 
-  pub thing_is : (e : Entry) (t : Thing) → thing_of cells entry e ≡ seen_thing t → IsThingOf e t
+  pub thing_is : (e : Entry) (t : Thing) → thing_of cells entry e ≡ t → IsThingOf e t
   unfolding thing_of
   thing_is e t h =
       record {
-        node = ap (λ (x : ThingOf). x.node) h;
-        name = ap (λ (x : ThingOf). x.name) h;
-        left = ap (λ (x : ThingOf). x.left) h;
-        right = ap (λ (x : ThingOf). x.right) h;
-        bits = ap (λ (x : ThingOf). x.bits) h;
-        words = ap (λ (x : ThingOf). x.words) h;
+        node = ap (λ (x : Thing). x.node) h;
+        name = ap (λ (x : Thing). x.name.items) h;
+        left = ap (λ (x : Thing). x.left) h;
+        right = ap (λ (x : Thing). x.right) h;
+        bits = ap (λ (x : Thing). x.bits.items) h;
+        words = sym (words_had e.what.words) ∙ ap (λ (x : Thing). map seen_word x.words.items) h;
       }

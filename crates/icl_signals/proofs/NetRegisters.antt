@@ -21,11 +21,10 @@ use Rattle.net_graph.specs.Named.{IsPointOf, IsSignalOf}
 use Rattle.net_graph.specs.Nets.{IsReg}
 use Rattle.icl_signals.specs.declared.wires.Wire.{Wire}
 use Rattle.icl_signals.specs.Moves.{Entry}
-use Rattle.icl_signals.specs.PlainNets.{seen_reg}
 use Rattle.icl_signals.specs.Connecting.{entries_that, number_among, resets, data_from, scan_source, captures}
 use Rattle.icl_signals.specs.Connecting.{register_of}
 use Rattle.icl_signals.proofs.Joined.{part_wired}
-use Rattle.icl_signals.proofs.Paired.{paired_length, paired_all, each_paired, each_itself}
+use Rattle.icl_signals.proofs.Paired.{paired_length, paired_all, each_paired}
 use Rattle.icl_signals.proofs.EntryNumbers.{IsKept, all_kept_known, the_entry, entry_of_number}
 use Rattle.icl_signals.proofs.NetParts.{IsNetOf, register_is}
 use Rattle.icl_signals.proofs.NetSignals.{IsShaped, driven_signal, data_there, scan_there}
@@ -56,7 +55,7 @@ module _ (cells : List CellOf) (entry : Wire) (net : Net) (shaped : IsShaped cel
         ap length (sym (ok_is (replicate width Absent) signals h)) ∙ length-replicate width Absent
     captures_long at width (Some refs) signals w h =
         sym (paired_length (λ (r : Ref) (s : Sig). data_from cells entry at r ≡ Ok s) refs signals
-        (each_itself (data_from cells entry at) refs signals h)) ∙ w.1
+        (each_paired (data_from cells entry at) refs signals h)) ∙ w.1
 
     captures_there : (at : Place) (width : ℕ) (o : Option (List Ref)) (signals : List Sig)
         → IfSome o (AreWide (IsRefOf cells) width) → captures cells entry at width o ≡ Ok signals
@@ -67,10 +66,10 @@ module _ (cells : List CellOf) (entry : Wire) (net : Net) (shaped : IsShaped cel
     captures_there at width (Some refs) signals w h =
         paired_all (IsRefOf cells) (λ (r : Ref) (s : Sig). data_from cells entry at r ≡ Ok s) (IsSignalOf net)
         (λ r s g d. driven_signal net s (data_there cells entry net shaped wired at r s g d)) refs signals w.0
-        (each_itself (data_from cells entry at) refs signals h)
+        (each_paired (data_from cells entry at) refs signals h)
 
     pub register_good : (e : Entry) (reg : Reg) → IsKept cells is_register e
-        → register_of cells entry e ≡ Ok (seen_reg reg) → IsReg net reg
+        → register_of cells entry e ≡ Ok reg → IsReg net reg
     register_good e reg k h =
         let r = register_is cells entry e reg h in
         let part = part_wired cells wired e.cell e.part e.what k.0 in
@@ -101,7 +100,7 @@ pub registers_good : (cells : List CellOf) (net : Net) (n : IsNetOf cells net)
 registers_good cells net n shaped wired =
     All-from_recursion (IsReg net) net.regs.items
     (paired_all (IsKept cells is_register)
-    (λ (e : Entry) (reg : Reg). register_of cells n.entry e ≡ Ok (seen_reg reg)) (IsReg net)
+    (λ (e : Entry) (reg : Reg). register_of cells n.entry e ≡ Ok reg) (IsReg net)
     (register_good cells n.entry net shaped wired)
     (entries_that is_register cells) net.regs.items (all_kept_known cells is_register)
-    (each_paired (register_of cells n.entry) seen_reg (entries_that is_register cells) net.regs.items n.regs))
+    (each_paired (register_of cells n.entry) (entries_that is_register cells) net.regs.items n.regs))

@@ -33,8 +33,6 @@ use Rattle.icl_signals.specs.declared.wires.End.TheVariants.{AtConstant, AtBit, 
 use Rattle.icl_signals.specs.Moves.{Entry, is_instrument_cell, driver_of}
 use Rattle.icl_signals.specs.Traces.{signal_bits, follow, trace}
 use Rattle.icl_signals.specs.Laws.{Stop}
-use Rattle.icl_signals.specs.PlainNets.{OutputOf, seen_reg, seen_mux, seen_output, seen_inst, seen_node}
-use Rattle.icl_signals.specs.PlainNets.{seen_thing}
 use Rattle.icl_signals.specs.Connecting.{entries_that, number_among, instruments, instrument_number}
 use Rattle.icl_signals.specs.Connecting.{output_number, parts_that, constant, register_bit, output_of}
 use Rattle.icl_signals.specs.Connecting.{data_end, scan_end, select_bit, input_bit, data_from, scan_from}
@@ -77,24 +75,24 @@ widths_same : (cells : List CellOf) (entry : Wire) (c : ℕ × CellOf) (i : Inst
     → IsInstrumentOf cells entry c i
     → map (λ (port : PortOut). port.width) i.outs.items ≡ output_widths_of c
 widths_same cells entry c i h =
-    sym (paired_maps (λ (p : ℕ × PartOf) (o : PortOut). output_of p ≡ seen_output o)
+    sym (paired_maps (λ (p : ℕ × PartOf) (o : PortOut). output_of p ≡ o)
     (λ p. part_width p.1) (λ o. o.width)
-    (λ p o e. ap (λ (x : OutputOf). x.width) e)
+    (λ p o e. ap (λ (x : PortOut). x.width) e)
     (parts_that is_data_out c.1) i.outs.items
-    (mapped_paired output_of seen_output (parts_that is_data_out c.1) i.outs.items h.outs))
+    (mapped_paired output_of (parts_that is_data_out c.1) i.outs.items h.outs))
 
 pub net_shaped : (cells : List CellOf) (net : Net) (n : IsNetOf cells net) → IsShaped cells n.entry net
 net_shaped cells net n =
-    let R = λ (e : Entry) (reg : Reg). register_of cells n.entry e ≡ Ok (seen_reg reg) in
-    let S = λ (c : ℕ × CellOf) (i : Inst). instrument_of cells n.entry c ≡ Ok (seen_inst i) in
-    let T = λ (e : Entry) (t : Thing). thing_of cells n.entry e ≡ seen_thing t in
-    let regs = each_paired (register_of cells n.entry) seen_reg
+    let R = λ (e : Entry) (reg : Reg). register_of cells n.entry e ≡ Ok reg in
+    let S = λ (c : ℕ × CellOf) (i : Inst). instrument_of cells n.entry c ≡ Ok i in
+    let T = λ (e : Entry) (t : Thing). thing_of cells n.entry e ≡ t in
+    let regs = each_paired (register_of cells n.entry)
     (entries_that is_register cells) net.regs.items n.regs in
-    let muxes = each_paired (mux_of cells n.entry) seen_mux
+    let muxes = each_paired (mux_of cells n.entry)
     (entries_that is_mux cells) net.muxes.items n.muxes in
-    let insts = each_paired (instrument_of cells n.entry) seen_inst
+    let insts = each_paired (instrument_of cells n.entry)
     (instruments cells) net.insts.items n.insts in
-    let things = mapped_paired (thing_of cells n.entry) seen_thing
+    let things = mapped_paired (thing_of cells n.entry)
     (entries_that is_thing cells) net.things.items n.things in
     record {
       widths =
@@ -107,14 +105,14 @@ net_shaped cells net n =
           (entries_that is_register cells) net.regs.items regs);
       regs = sym (paired_length R (entries_that is_register cells) net.regs.items regs);
       muxes =
-          sym (paired_length (λ (e : Entry) (m : Mux). mux_of cells n.entry e ≡ Ok (seen_mux m))
+          sym (paired_length (λ (e : Entry) (m : Mux). mux_of cells n.entry e ≡ Ok m)
           (entries_that is_mux cells) net.muxes.items muxes);
       outputs =
           sym (paired_maps S output_widths_of (λ i. map (λ (port : PortOut). port.width) i.outs.items)
           (λ c i h. sym (widths_same cells n.entry c i (instrument_is cells n.entry c i h)))
           (instruments cells) net.insts.items insts);
       insts = sym (paired_length S (instruments cells) net.insts.items insts);
-      nodes = sym (length-map net.nodes.items seen_node) ∙ sym (ap length n.nodes)
+      nodes = sym (ap length n.nodes)
           ∙ length-map (enumerate_from 0 cells) (node_of (paths_from [] cells))
           ∙ length-enumerate_from 0 cells;
       bits =

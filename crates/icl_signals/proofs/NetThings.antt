@@ -28,7 +28,6 @@ use Rattle.net_graph.specs.Nets.{IsThing, HaveThings}
 use Rattle.icl_signals.specs.declared.wires.Wire.{Wire}
 use Rattle.icl_signals.specs.Moves.{Entry, entry_of, entries_in}
 use Rattle.icl_signals.specs.Refusals.{Answer}
-use Rattle.icl_signals.specs.PlainNets.{seen_thing}
 use Rattle.icl_signals.specs.Connecting.{entries_that, number_among, constant, or_absent, one_bit_of}
 use Rattle.icl_signals.specs.Connecting.{own_bits, data_from, signal_from, spot_by, spot_in, spot_of, refs_of}
 use Rattle.icl_signals.specs.Connecting.{thing_of}
@@ -92,7 +91,7 @@ module _ (cells : List CellOf) (entry : Wire) (net : Net)
 
   module _ (named : AllByRecursion IsCell cells) where
     pub thing_good : (e : Entry) (t : Thing) → IsKept cells is_thing e
-        → thing_of cells entry e ≡ seen_thing t → IsThing net t
+        → thing_of cells entry e ≡ t → IsThing net t
     thing_good e t k h =
         let i = thing_is cells entry e t h in
         let part = part_wired cells wired e.cell e.part e.what k.0 in
@@ -207,10 +206,10 @@ pub things_good : (cells : List CellOf) (net : Net) (n : IsNetOf cells net)
 things_good cells net n shaped wired named =
     All-from_recursion (IsThing net) net.things.items
     (paired_all (IsKept cells is_thing)
-    (λ (e : Entry) (t : Thing). thing_of cells n.entry e ≡ seen_thing t) (IsThing net)
+    (λ (e : Entry) (t : Thing). thing_of cells n.entry e ≡ t) (IsThing net)
     (thing_good cells n.entry net shaped wired named)
     (entries_that is_thing cells) net.things.items (all_kept_known cells is_thing)
-    (mapped_paired (thing_of cells n.entry) seen_thing
+    (mapped_paired (thing_of cells n.entry)
     (entries_that is_thing cells) net.things.items n.things))
 
 -- ---- no two things of a node have one name
@@ -252,11 +251,11 @@ pub thing_names : (cells : List CellOf) (net : Net) (n : IsNetOf cells net) → 
     → AreDifferent {A = ℕ × List ℕ} (map (λ (t : Thing). (t.node, t.name.items)) net.things.items)
 thing_names cells net n named =
     subst AreDifferent
-    (paired_maps (λ (e : Entry) (t : Thing). thing_of cells n.entry e ≡ seen_thing t) named_at
+    (paired_maps (λ (e : Entry) (t : Thing). thing_of cells n.entry e ≡ t) named_at
     (λ t. (t.node, t.name.items))
     (λ e t h. let i = thing_is cells n.entry e t h in
     ap (λ (k : ℕ). (k, e.what.name)) i.node ∙ ap (λ (l : List ℕ). (t.node, l)) i.name)
-    (entries_that is_thing cells) net.things.items (mapped_paired (thing_of cells n.entry) seen_thing
+    (entries_that is_thing cells) net.things.items (mapped_paired (thing_of cells n.entry)
     (entries_that is_thing cells) net.things.items n.things))
     (apart_different (map named_at (entries_that is_thing cells))
     (apart_of_map named_at (λ a b. a ≡ b → ⊥) (entries_that is_thing cells)

@@ -6,8 +6,8 @@ use Rattle.icl_elab.specs.WellFormed.{IsHierarchy}
 use Rattle.net_graph.specs.declared.net.Net.{Net}
 use Rattle.net_graph.specs.Nets.{IsNet}
 use Rattle.icl_signals.specs.declared.fault.ConnectFault.{ConnectFault}
+use Rattle.ij_text.specs.Options.{same}
 use Rattle.icl_signals.specs.Refusals.{Gives}
-use Rattle.icl_signals.specs.PlainNets.{seen_net}
 use Rattle.icl_signals.specs.Connecting.{network, one_bit_of}
 use Rattle.icl_signals.specs.WellFormed.{NetsAreWellFormed}
 use Rattle.icl_signals.proofs.NetParts.{net_is}
@@ -47,6 +47,6 @@ nets_are_well_formed cells link instr net h e =
     }
 
 pub well_formed_if : (r : Result Net ConnectFault) (cells : List CellOf) (link instr : List ℕ)
-    → Gives seen_net r (network cells link instr) → IfOk r (λ net. IsHierarchy cells → IsNet net)
+    → Gives same r (network cells link instr) → IfOk r (λ net. IsHierarchy cells → IsNet net)
 well_formed_if (Ok net) cells link instr g = λ h. nets_are_well_formed cells link instr net h g
 well_formed_if (Err e) cells link instr g = tt

@@ -88,42 +88,30 @@ module _ {A B : Type 0} (P : A → Type 0) (R : A → B → Type 0) where
   paired_all Q f (x ∷ xs) (y ∷ ys) p h = (f x y p.0 h.0, paired_all Q f xs ys p.1 h.1)
 
 -- what is given for each item
-pub each_paired : {A B C E : Type 0} (f : A → Result B E) (g : C → B) (xs : List A) (zs : List C)
-    → each f xs ≡ Ok (map g zs)
-    → Paired (λ x z. f x ≡ Ok (g z)) xs zs
-each_paired f g [] [] h = tt
-each_paired f g [] (z ∷ zs) h = absurd cc
-each_paired f g (x ∷ xs) [] h =
-    let a = both (f x) (λ y. each f xs >>= λ ys. Ok (y ∷ ys)) [] h in
-    let b = both (each f xs) (λ ys. Ok (a.first ∷ ys)) [] a.then' in
+pub each_paired : {A B E : Type 0} (f : A → Result B E) (xs : List A) (ys : List B) → each f xs ≡ Ok ys
+    → Paired (λ x y. f x ≡ Ok y) xs ys
+each_paired f [] [] h = tt
+each_paired f [] (y ∷ ys) h = absurd cc
+each_paired f (x ∷ xs) [] h =
+    let a = both (f x) (λ z. each f xs >>= λ zs. Ok (z ∷ zs)) [] h in
+    let b = both (each f xs) (λ zs. Ok (a.first ∷ zs)) [] a.then' in
     let e = b.then' in
     absurd cc
-each_paired f g (x ∷ xs) (z ∷ zs) h =
-    let a = both (f x) (λ y. each f xs >>= λ ys. Ok (y ∷ ys)) (g z ∷ map g zs) h in
-    let b = both (each f xs) (λ ys. Ok (a.first ∷ ys)) (g z ∷ map g zs) a.then' in
-    let e = ok_is (a.first ∷ b.first) (g z ∷ map g zs) b.then' in (
-      a.is ∙ ap (λ y. Ok y) (head_same a.first (g z) b.first (map g zs) e),
-      each_paired f g xs zs
-          (b.is ∙ ap (λ l. Ok l) (tail_same a.first (g z) b.first (map g zs) e)),
+each_paired f (x ∷ xs) (y ∷ ys) h =
+    let a = both (f x) (λ z. each f xs >>= λ zs. Ok (z ∷ zs)) (y ∷ ys) h in
+    let b = both (each f xs) (λ zs. Ok (a.first ∷ zs)) (y ∷ ys) a.then' in
+    let e = ok_is (a.first ∷ b.first) (y ∷ ys) b.then' in (
+      a.is ∙ ap (λ z. Ok z) (head_same a.first y b.first ys e),
+      each_paired f xs ys (b.is ∙ ap (λ l. Ok l) (tail_same a.first y b.first ys e)),
     )
 
-pub each_itself : {A B E : Type 0} (f : A → Result B E) (xs : List A) (ys : List B)
-    → each f xs ≡ Ok ys → Paired (λ x y. f x ≡ Ok y) xs ys
-each_itself {B = B} f xs ys h = each_paired f (λ y. y) xs ys (h ∙ ap (λ l. Ok l) (same ys))
-  where
-    same : (l : List B) → l ≡ map (λ y. y) l
-    same [] = refl
-    same (y ∷ l) = ap (λ m. y ∷ m) (same l)
-
-pub mapped_paired : {A B C : Type 0} (f : A → B) (g : C → B) (xs : List A) (zs : List C)
-    → map f xs ≡ map g zs → Paired (λ x z. f x ≡ g z) xs zs
-mapped_paired f g [] [] h = tt
-mapped_paired f g [] (z ∷ zs) h = absurd cc
-mapped_paired f g (x ∷ xs) [] h = absurd cc
-mapped_paired f g (x ∷ xs) (z ∷ zs) h = (
-  head_same (f x) (g z) (map f xs) (map g zs) h,
-  mapped_paired f g xs zs (tail_same (f x) (g z) (map f xs) (map g zs) h),
-)
+pub mapped_paired : {A B : Type 0} (f : A → B) (xs : List A) (ys : List B) → map f xs ≡ ys
+    → Paired (λ x y. f x ≡ y) xs ys
+mapped_paired f [] [] h = tt
+mapped_paired f [] (y ∷ ys) h = absurd cc
+mapped_paired f (x ∷ xs) [] h = absurd cc
+mapped_paired f (x ∷ xs) (y ∷ ys) h =
+    (head_same (f x) y (map f xs) ys h, mapped_paired f xs ys (tail_same (f x) y (map f xs) ys h))
 
 -- ---- places
 

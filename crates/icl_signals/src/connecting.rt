@@ -1,12 +1,12 @@
 // The network of a hierarchy.
 ghost use Rattle.std.specs.Prelude.{◌≡◌, map, IfOk};
+ghost use Rattle.ij_text.specs.Options.{same};
 ghost use Rattle.icl_references.specs.Roles.{seen_hier};
 ghost use Rattle.icl_declarations.specs.Faults.{each};
 ghost use Rattle.icl_elab.specs.WellFormed.{IsHierarchy, is_mux, is_register, is_thing};
 ghost use Rattle.net_graph.specs.Nets.{IsNet};
 ghost use Rattle.icl_signals.specs.Refusals.{Gives};
 ghost use Rattle.icl_signals.specs.Wirings.{IsWiring, cells_of};
-ghost use Rattle.icl_signals.specs.PlainNets.{seen_mux, seen_net, seen_reg, seen_thing};
 ghost use Rattle.icl_signals.specs.Connecting.{entries_that, mux_of, network, network_from, register_of};
 ghost use Rattle.icl_signals.specs.Connecting.{thing_of};
 
@@ -31,7 +31,7 @@ use std::alloc::Global;
 /// The registers.
 fn own_registers(alloc: Global, wiring: &Wiring) -> Result<List<Reg>, ConnectFault>
     requires { IsWiring wiring.now }
-    ensures { Gives (λ all. map seen_reg all.items) result (each (register_of
+    ensures { Gives (λ all. all.items) result (each (register_of
         (cells_of wiring.now) wiring.now.entry) (entries_that is_register (cells_of wiring.now))) }
 {
     let parts = entries_of(alloc, Kind::Register, wiring.hier)?;
@@ -43,7 +43,7 @@ fn own_registers(alloc: Global, wiring: &Wiring) -> Result<List<Reg>, ConnectFau
 /// The multiplexers.
 fn own_muxes(alloc: Global, wiring: &Wiring) -> Result<List<Mux>, ConnectFault>
     requires { IsWiring wiring.now }
-    ensures { Gives (λ all. map seen_mux all.items) result
+    ensures { Gives (λ all. all.items) result
         (each (mux_of (cells_of wiring.now) wiring.now.entry) (entries_that is_mux (cells_of wiring.now))) }
 {
     let parts = entries_of(alloc, Kind::Mux, wiring.hier)?;
@@ -55,7 +55,7 @@ fn own_muxes(alloc: Global, wiring: &Wiring) -> Result<List<Mux>, ConnectFault>
 /// What procedures may name.
 fn own_things(alloc: Global, wiring: &Wiring) -> Result<List<Thing>, OutOfMemory>
     requires { IsWiring wiring.now }
-    ensures { IfOk result (λ all. map seen_thing all.items ≡ map
+    ensures { IfOk result (λ all. all.items ≡ map
         (thing_of (cells_of wiring.now) wiring.now.entry) (entries_that is_thing (cells_of wiring.now))) }
 {
     let parts = entries_of(alloc, Kind::Thing, wiring.hier)?;
@@ -67,7 +67,7 @@ fn own_things(alloc: Global, wiring: &Wiring) -> Result<List<Thing>, OutOfMemory
 /// The network whose output a reference leads to, where its signals are followed.
 fn network_from(alloc: Global, wiring: &Wiring, at: Place, exit: Ref) -> Result<Net, ConnectFault>
     requires { IsWiring wiring.now }
-    ensures { Gives seen_net result (network_from (cells_of wiring.now) wiring.now.entry at exit) }
+    ensures { Gives same result (network_from (cells_of wiring.now) wiring.now.entry at exit) }
 {
     let out = scan_from(wiring, at, exit)?;
     let regs = own_registers(alloc, wiring)?;
@@ -90,7 +90,7 @@ fn network_from(alloc: Global, wiring: &Wiring, at: Place, exit: Ref) -> Result<
 /// The network between the two ends that an instruction selects, or the first fault on the way to it.
 #[tactic(auto, unfolding(crate::specs::Connecting::network))]
 fn network_of(alloc: Global, hier: &Hier, link: &Name, instr: &Name) -> Result<Net, ConnectFault>
-    ensures { Gives seen_net result (network (seen_hier hier.now) link.now.items instr.now.items) }
+    ensures { Gives same result (network (seen_hier hier.now) link.now.items instr.now.items) }
 {
     let ends = ends(alloc, hier, link, instr)?;
     let untraced = wiring_of(alloc, hier, ends.entry)?;
@@ -122,7 +122,7 @@ fn network_of(alloc: Global, hier: &Hier, link: &Name, instr: &Name) -> Result<N
 /// The network of a well formed hierarchy, as `icl_elab::elaborate` gives it of a design that the grammar
 /// gave, is well formed.
 pub fn connect(alloc: Global, hier: &Hier, link: &Name, instr: &Name) -> Result<Net, ConnectFault>
-    ensures gives { Gives seen_net result (network (seen_hier hier.now) link.now.items instr.now.items) }
+    ensures gives { Gives same result (network (seen_hier hier.now) link.now.items instr.now.items) }
     ensures well_formed { IfOk result (λ net. IsHierarchy (seen_hier hier.now) → IsNet net) }
 {
     network_of(alloc, hier, link, instr)

@@ -4,6 +4,7 @@ ghost use Rattle.std.specs.Option.{option_map};
 ghost use Rattle.ij_text.specs.Numbers.{tern_bits};
 ghost use Rattle.icl_references.specs.Roles.{seen_word};
 ghost use Rattle.icl_signals.specs.Connecting.{resets};
+ghost use Rattle.icl_signals.specs.OpenNumbers.{tern_of, word_of};
 
 use icl_elab::Part;
 use ij_bits::{BitBox, Bits, List, OutOfMemory, Tern};
@@ -12,7 +13,7 @@ use std::alloc::Global;
 
 /// This many bits, all of them open.
 fn all_open(alloc: Global, width: u32) -> Result<Tern, OutOfMemory>
-    ensures { IfOk result (λ t. tern_bits t ≡ replicate width None) }
+    ensures { IfOk result (λ t. t ≡ tern_of (replicate width None)) }
 {
     let value = Bits::zeros(alloc, width)?;
     let care = Bits::zeros(alloc, width)?;
@@ -24,7 +25,7 @@ fn all_open(alloc: Global, width: u32) -> Result<Tern, OutOfMemory>
 
 /// The reset values of a register: all open where there are none.
 pub(crate) fn resets(alloc: Global, width: u32, reset: &Option<Tern>) -> Result<Tern, OutOfMemory>
-    ensures { IfOk result (λ t. tern_bits t ≡ resets width (option_map tern_bits reset.now)) }
+    ensures { IfOk result (λ t. t ≡ tern_of (resets width (option_map tern_bits reset.now))) }
 {
     match reset {
         Some(bits) => bits.copy(alloc),
@@ -34,7 +35,7 @@ pub(crate) fn resets(alloc: Global, width: u32, reset: &Option<Tern>) -> Result<
 
 /// The same values.
 pub(crate) fn values_copy(alloc: Global, values: &[Tern]) -> Result<List<Tern>, OutOfMemory>
-    ensures { IfOk result (λ all. map tern_bits all.items ≡ map tern_bits values.now) }
+    ensures { IfOk result (λ all. all.items ≡ map tern_of (map tern_bits values.now)) }
 {
     let mut all = List::new(alloc);
     for value in values {
@@ -45,7 +46,7 @@ pub(crate) fn values_copy(alloc: Global, values: &[Tern]) -> Result<List<Tern>, 
 
 /// A word of an enumeration, with its value.
 fn word_copy(alloc: Global, word: &(Name, Tern)) -> Result<(Name, Tern), OutOfMemory>
-    ensures { IfOk result (λ w. seen_word w ≡ seen_word word.now) }
+    ensures { IfOk result (λ w. w ≡ word.now) }
 {
     let name = name_of(alloc, word.0.as_slice())?;
     let value = word.1.copy(alloc)?;
@@ -54,7 +55,7 @@ fn word_copy(alloc: Global, word: &(Name, Tern)) -> Result<(Name, Tern), OutOfMe
 
 /// The words of a part's enumeration, with their values.
 pub(crate) fn words_copy(alloc: Global, part: &Part) -> Result<List<(Name, Tern)>, OutOfMemory>
-    ensures { IfOk result (λ words. map seen_word words.items ≡ map seen_word part.now.words.items) }
+    ensures { IfOk result (λ words. words.items ≡ map word_of (map seen_word part.now.words.items)) }
 {
     let mut words = List::new(alloc);
     for word in part.words.as_slice() {

@@ -1,5 +1,6 @@
 // The instruments of a network.
 ghost use Rattle.std.specs.Prelude.{◌≡◌, ◌∷◌, [], map, filter, IfOk};
+ghost use Rattle.ij_text.specs.Options.{same};
 ghost use Rattle.icl_declarations.specs.Faults.{each};
 ghost use Rattle.icl_elab.specs.WellFormed.{is_data_out, is_instrument};
 ghost use Rattle.icl_references.specs.Roles.{seen_cell};
@@ -7,7 +8,6 @@ ghost use Rattle.icl_signals.specs.Refusals.{Gives, after};
 ghost use Rattle.icl_signals.specs.Wirings.{IsWiring, cells_of};
 ghost use Rattle.icl_signals.specs.TrueEnds.{seen_entry};
 ghost use Rattle.icl_signals.specs.Inside.{numbered};
-ghost use Rattle.icl_signals.specs.PlainNets.{seen_input, seen_output, seen_inst};
 ghost use Rattle.icl_signals.specs.Connecting.{input_from, input_of, output_of, instrument_of, instruments};
 ghost use Rattle.icl_signals.specs.Connecting.{parts_that};
 
@@ -44,7 +44,7 @@ fn input_bits(
 /// An input of the instrument that this cell is.
 fn input_of(alloc: Global, wiring: &Wiring, cell: u32, e: PartAt) -> Result<PortIn, ConnectFault>
     requires { IsWiring wiring.now }
-    ensures { Gives seen_input result
+    ensures { Gives same result
         (input_of (cells_of wiring.now) wiring.now.entry cell (numbered (seen_entry e.entry))) }
 {
     let refs = own_refs(alloc, cell, e.part, e.what)?;
@@ -56,7 +56,7 @@ fn input_of(alloc: Global, wiring: &Wiring, cell: u32, e: PartAt) -> Result<Port
 }
 
 fn output_of(alloc: Global, e: PartAt) -> Result<PortOut, OutOfMemory>
-    ensures { IfOk result (λ port. seen_output port ≡ output_of (numbered (seen_entry e.entry))) }
+    ensures { IfOk result (λ port. port ≡ output_of (numbered (seen_entry e.entry))) }
 {
     let name = name_of(alloc, e.what.name.as_slice())?;
     let width = width_of(e.what)?;
@@ -70,7 +70,7 @@ fn inputs(
     parts: &[PartAt],
 ) -> Result<List<PortIn>, ConnectFault>
     requires { IsWiring wiring.now }
-    ensures { Gives (λ all. map seen_input all.items) result (each (input_of
+    ensures { Gives (λ all. all.items) result (each (input_of
         (cells_of wiring.now) wiring.now.entry cell) (map (λ e. numbered (seen_entry e)) parts.now)) }
 {
     let mut all = List::new(alloc);
@@ -82,7 +82,7 @@ fn inputs(
 }
 
 fn outputs(alloc: Global, parts: &[PartAt]) -> Result<List<PortOut>, OutOfMemory>
-    ensures { IfOk result (λ all. map seen_output all.items
+    ensures { IfOk result (λ all. all.items
         ≡ map output_of (map (λ e. numbered (seen_entry e)) parts.now)) }
 {
     let mut all = List::new(alloc);
@@ -94,7 +94,7 @@ fn outputs(alloc: Global, parts: &[PartAt]) -> Result<List<PortOut>, OutOfMemory
 
 /// The outputs of the instrument that a cell is.
 fn own_outputs(alloc: Global, number: u32, cell: &Cell) -> Result<List<PortOut>, OutOfMemory>
-    ensures { IfOk result (λ all. map seen_output all.items
+    ensures { IfOk result (λ all. all.items
         ≡ map output_of (parts_that is_data_out (seen_cell cell.now))) }
 {
     let parts = entries_at(alloc, Kind::Output, number, cell)?;
@@ -112,7 +112,7 @@ fn instrument_of(
     cell: &Cell,
 ) -> Result<Inst, ConnectFault>
     requires { IsWiring wiring.now }
-    ensures { Gives seen_inst result
+    ensures { Gives same result
         (instrument_of (cells_of wiring.now) wiring.now.entry (number, seen_cell cell.now)) }
 {
     let parts = entries_at(alloc, Kind::Input, number, cell)?;
@@ -135,8 +135,8 @@ fn with_instrument(
     found: List<Inst>,
 ) -> Result<List<Inst>, ConnectFault>
     requires { IsWiring wiring.now }
-    ensures { Gives (λ all. map seen_inst all.items) result
-        (after (map seen_inst found.items) (each (instrument_of (cells_of wiring.now) wiring.now.entry)
+    ensures { Gives (λ all. all.items) result
+        (after found.items (each (instrument_of (cells_of wiring.now) wiring.now.entry)
         (filter (λ c. is_instrument c.1) ((number, seen_cell cell.now) ∷ [])))) }
 {
     let mut all = found;
@@ -150,7 +150,7 @@ fn with_instrument(
 /// The instruments of the network.
 pub(crate) fn instruments(alloc: Global, wiring: &Wiring) -> Result<List<Inst>, ConnectFault>
     requires { IsWiring wiring.now }
-    ensures { Gives (λ all. map seen_inst all.items) result
+    ensures { Gives (λ all. all.items) result
         (each (instrument_of (cells_of wiring.now) wiring.now.entry) (instruments (cells_of wiring.now))) }
 {
     let mut all = List::new(alloc);

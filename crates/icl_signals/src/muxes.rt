@@ -1,11 +1,11 @@
 // The multiplexers of a network.
 ghost use Rattle.std.specs.Prelude.{map};
+ghost use Rattle.ij_text.specs.Options.{same};
 ghost use Rattle.icl_declarations.specs.Faults.{each};
 ghost use Rattle.icl_references.specs.Roles.{seen_row as seen_choice};
 ghost use Rattle.icl_signals.specs.Refusals.{Gives};
 ghost use Rattle.icl_signals.specs.Wirings.{IsWiring, cells_of};
 ghost use Rattle.icl_signals.specs.TrueEnds.{seen_entry};
-ghost use Rattle.icl_signals.specs.PlainNets.{seen_row, seen_mux};
 ghost use Rattle.icl_signals.specs.Connecting.{select_from, row_from, mux_of};
 
 use crate::ConnectFault;
@@ -45,7 +45,7 @@ fn row_from(
     row: &(List<Tern>, Ref),
 ) -> Result<Row, ConnectFault>
     requires { IsWiring wiring.now }
-    ensures { Gives seen_row result
+    ensures { Gives same result
         (row_from (cells_of wiring.now) wiring.now.entry at (seen_choice row.now)) }
 {
     let from = scan_from(wiring, at, row.1)?;
@@ -60,7 +60,7 @@ fn rows(
     rows: &[(List<Tern>, Ref)],
 ) -> Result<List<Row>, ConnectFault>
     requires { IsWiring wiring.now }
-    ensures { Gives (λ all. map seen_row all.items) result
+    ensures { Gives (λ all. all.items) result
         (each (row_from (cells_of wiring.now) wiring.now.entry at) (map seen_choice rows.now)) }
 {
     let mut all = List::new(alloc);
@@ -75,7 +75,7 @@ fn rows(
 #[tactic(auto, unfolding(crate::specs::Connecting::mux_of))]
 pub(crate) fn mux_of(alloc: Global, wiring: &Wiring, e: PartAt) -> Result<Mux, ConnectFault>
     requires { IsWiring wiring.now }
-    ensures { Gives seen_mux result (mux_of (cells_of wiring.now) wiring.now.entry (seen_entry e.entry)) }
+    ensures { Gives same result (mux_of (cells_of wiring.now) wiring.now.entry (seen_entry e.entry)) }
 {
     let part = e.what;
     match &part.body {
@@ -107,7 +107,7 @@ pub(crate) fn muxes(
     parts: &[PartAt],
 ) -> Result<List<Mux>, ConnectFault>
     requires { IsWiring wiring.now }
-    ensures { Gives (λ all. map seen_mux all.items) result
+    ensures { Gives (λ all. all.items) result
         (each (mux_of (cells_of wiring.now) wiring.now.entry) (map seen_entry parts.now)) }
 {
     let mut all = List::new(alloc);

@@ -1,7 +1,7 @@
 // The nodes of a network: each cell with its path of instance names.
 ghost use Rattle.std.specs.Prelude.{◌≡◌, [], map, get_or, Some, None, IfOk};
+ghost use Rattle.net_graph.specs.Nets.{path_of};
 ghost use Rattle.icl_references.specs.Roles.{seen_cell, seen_hier};
-ghost use Rattle.icl_signals.specs.PlainNets.{seen_node};
 ghost use Rattle.icl_signals.specs.Connecting.{path_with, nodes_of};
 
 use icl_elab::{Cell, Hier};
@@ -24,7 +24,7 @@ fn path_copy(alloc: Global, path: &[Name]) -> Result<List<Name>, OutOfMemory>
 /// The path of a node, empty for one that isn't there.
 fn path_at(nodes: &[Node], node: u32) -> &[Name]
     ensures { map (λ name. name.items) result.now
-        ≡ get_or (map (λ n. n.path) (map seen_node nodes.now)) node [] }
+        ≡ get_or (map path_of nodes.now) node [] }
 {
     match nodes.get(node as usize) {
         Some(node) => node.path.as_slice(),
@@ -34,8 +34,8 @@ fn path_at(nodes: &[Node], node: u32) -> &[Name]
 
 /// The path of a cell, after those of the cells before it.
 fn path_of(alloc: Global, nodes: &[Node], cell: &Cell) -> Result<List<Name>, OutOfMemory>
-    ensures { IfOk result (λ path. map (λ name. name.items) path.items ≡ path_with
-        (map (λ node. node.path) (map seen_node nodes.now)) (seen_cell cell.now) cell.now.parent) }
+    ensures { IfOk result (λ path. map (λ name. name.items) path.items
+        ≡ path_with (map path_of nodes.now) (seen_cell cell.now) cell.now.parent) }
 {
     let Some(parent) = cell.parent else {
         return Ok(List::new(alloc));
@@ -47,7 +47,7 @@ fn path_of(alloc: Global, nodes: &[Node], cell: &Cell) -> Result<List<Name>, Out
 
 /// The nodes of a hierarchy, by the numbers of its cells.
 pub(crate) fn nodes_of(alloc: Global, hier: &Hier) -> Result<List<Node>, OutOfMemory>
-    ensures { IfOk result (λ nodes. map seen_node nodes.items ≡ nodes_of (seen_hier hier.now)) }
+    ensures { IfOk result (λ nodes. nodes.items ≡ nodes_of (seen_hier hier.now)) }
 {
     let mut nodes = List::new(alloc);
     for cell in hier.cells.as_slice() {

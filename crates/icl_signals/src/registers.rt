@@ -9,7 +9,6 @@ ghost use Rattle.icl_references.specs.Roles.{seen_part, seen_refs};
 ghost use Rattle.icl_signals.specs.Refusals.{Gives};
 ghost use Rattle.icl_signals.specs.Wirings.{IsWiring, cells_of};
 ghost use Rattle.icl_signals.specs.TrueEnds.{IsPlaced, ArePlaced, seen_entry};
-ghost use Rattle.icl_signals.specs.PlainNets.{seen_reg};
 ghost use Rattle.icl_signals.specs.Connecting.{data_from, scan_source, captures, register_of, number_among};
 
 use crate::ConnectFault;
@@ -101,7 +100,7 @@ fn thing_number(wiring: &Wiring, e: PartAt) -> u32
 pub(crate) fn register_of(alloc: Global, wiring: &Wiring, e: PartAt) -> Result<Reg, ConnectFault>
     requires wiring { IsWiring wiring.now }
     requires placed { IsPlaced (cells_of wiring.now) e }
-    ensures { Gives seen_reg result
+    ensures { Gives same result
         (register_of (cells_of wiring.now) wiring.now.entry (seen_entry e.entry)) }
 {
     let part = e.what;
@@ -135,7 +134,7 @@ pub(crate) fn registers(
 ) -> Result<List<Reg>, ConnectFault>
     requires wiring { IsWiring wiring.now }
     requires placed { ArePlaced (cells_of wiring.now) parts.now }
-    ensures { Gives (λ all. map seen_reg all.items) result
+    ensures { Gives (λ all. all.items) result
         (each (register_of (cells_of wiring.now) wiring.now.entry) (map seen_entry parts.now)) }
 {
     let mut all = List::new(alloc);

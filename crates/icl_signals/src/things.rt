@@ -7,7 +7,6 @@ ghost use Rattle.icl_signals.specs.Alike.{data_spot};
 ghost use Rattle.icl_references.specs.RefRuns.{ref_after};
 ghost use Rattle.icl_signals.specs.Wirings.{IsWiring, cells_of};
 ghost use Rattle.icl_signals.specs.TrueEnds.{seen_entry};
-ghost use Rattle.icl_signals.specs.PlainNets.{seen_thing};
 ghost use Rattle.icl_signals.specs.Connecting.{own_bits, spot_of, thing_of, number_among};
 
 use crate::copies::words_copy;
@@ -132,7 +131,7 @@ fn own_spots(alloc: Global, wiring: &Wiring, e: PartAt) -> Result<Spots, OutOfMe
 #[tactic(auto, unfolding(crate::specs::Connecting::thing_of))]
 fn thing_of(alloc: Global, wiring: &Wiring, e: PartAt) -> Result<Thing, OutOfMemory>
     requires { IsWiring wiring.now }
-    ensures { IfOk result (λ t. seen_thing t
+    ensures { IfOk result (λ t. t
         ≡ thing_of (cells_of wiring.now) wiring.now.entry (seen_entry e.entry)) }
 {
     let part = e.what;
@@ -160,7 +159,7 @@ pub(crate) fn things(
     parts: &[PartAt],
 ) -> Result<List<Thing>, OutOfMemory>
     requires { IsWiring wiring.now }
-    ensures { IfOk result (λ all. map seen_thing all.items
+    ensures { IfOk result (λ all. all.items
         ≡ map (thing_of (cells_of wiring.now) wiring.now.entry) (map seen_entry parts.now)) }
 {
     let mut all = List::new(alloc);

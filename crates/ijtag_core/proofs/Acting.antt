@@ -13,7 +13,7 @@ use Rattle.ijtag_work.specs.Late.{IsLateStop}
 use Rattle.ijtag_work.specs.Leaves.{Leaves}
 use Rattle.ijtag_work.specs.Loads.{loaded, IsOneOf}
 use Rattle.ijtag_work.specs.Runs.{AreFirstWritten, Counts, IsStop}
-use Rattle.ijtag_work.specs.Stops.{IsEarly}
+use Rattle.ijtag_work.specs.Stops.{Stop}
 use Rattle.ijtag_work.specs.Seen.{file_stop, output_stop}
 use Rattle.ijtag_work.specs.Task.{Row, Task, task_of, work}
 
@@ -41,38 +41,37 @@ row_refuses row files texts named it read is given refusal refuses =
 pub none_first : (old new : Option Files) → new ≡ old → AreFirstWritten never [] old new
 none_first old new same = record { whole = λ written given. absurd given; others = same; same = λ none. same }
 
--- no write comes early
-pub file_late : (name : List ℕ) (fault : StoreFault) → IsEarly (file_stop name fault) → ⊥
-file_late name Failed early = early
-file_late name OutOfMemory early = early
-
-pub output_late : (fault : StoreFault) → IsEarly (output_stop fault) → ⊥
-output_late Failed early = early
-output_late OutOfMemory early = early
-
 -- a write of a file is refused
-pub file_stops : {T : Type 0} (part : Part Leaves) (task : Task)
-    (c : Counts) (name : List ℕ) (fault : StoreFault)
+pub file_stops : {T : Type 0} {stop : Stop} (part : Part Leaves) (task : Task)
+    (c : Counts) (name : List ℕ) (fault : StoreFault) → stop ≡ file_stop name fault
     → (◌≡◌ {A = Result T StoreFault} (Err fault) (Err Failed) → (leaves : Leaves) × part.gives leaves)
     → IsOneOf task.writes name
     → (◌≡◌ {A = Result T StoreFault} (Err fault) (Err Failed) → Rose (c.store name) (c.store_now name))
-    → IsLateStop part task c (file_stop name fault)
-file_stops part task c name Failed some own rose = (some refl, (own, rose refl))
-file_stops part task c name OutOfMemory some own rose = tt
+    → IsLateStop part task c stop
+file_stops part task c name Failed is some own rose =
+    subst (λ (s : Stop). IsLateStop part task c s) (sym is) (some refl, (own, rose refl))
+file_stops part task c name OutOfMemory is some own rose =
+    subst (λ (s : Stop). IsLateStop part task c s) (sym is) tt
 
 -- or one of the output
-pub output_stops : {T : Type 0} (part : Part Leaves) (task : Task) (c : Counts) (fault : StoreFault)
+pub output_stops : {T : Type 0} {stop : Stop} (part : Part Leaves) (task : Task) (c : Counts)
+    (fault : StoreFault) → stop ≡ output_stop fault
     → (◌≡◌ {A = Result T StoreFault} (Err fault) (Err Failed) → (leaves : Leaves) × part.gives leaves)
     → IsTrue task.prints
     → (◌≡◌ {A = Result T StoreFault} (Err fault) (Err Failed) → Rose c.output c.output_now)
-    → IsLateStop part task c (output_stop fault)
-output_stops part task c Failed some own rose = (some refl, (own, rose refl))
-output_stops part task c OutOfMemory some own rose = tt
+    → IsLateStop part task c stop
+output_stops part task c Failed is some own rose =
+    subst (λ (s : Stop). IsLateStop part task c s) (sym is) (some refl, (own, rose refl))
+output_stops part task c OutOfMemory is some own rose =
+    subst (λ (s : Stop). IsLateStop part task c s) (sym is) tt
 
 -- the same of the whole work
-pub file_stop_of : {T : Type 0} (files : Option Files) (task : Task) (c : Counts) (name : List ℕ)
-    (fault : StoreFault) → (leaves : Leaves) × (work files task).gives leaves → IsOneOf task.writes name
+pub file_stop_of : {T : Type 0} {stop : Stop} (files : Option Files) (task : Task) (c : Counts)
+    (name : List ℕ) (fault : StoreFault) → stop ≡ file_stop name fault
+    → (leaves : Leaves) × (work files task).gives leaves → IsOneOf task.writes name
     → (◌≡◌ {A = Result T StoreFault} (Err fault) (Err Failed) → Rose (c.store name) (c.store_now name))
-    → IsStop files task c (file_stop name fault)
-file_stop_of files task c name Failed some own rose = (inl some, (own, rose refl))
-file_stop_of files task c name OutOfMemory some own rose = tt
+    → IsStop files task c stop
+file_stop_of files task c name Failed is some own rose =
+    subst (λ (s : Stop). IsStop files task c s) (sym is) (inl some, (own, rose refl))
+file_stop_of files task c name OutOfMemory is some own rose =
+    subst (λ (s : Stop). IsStop files task c s) (sym is) tt

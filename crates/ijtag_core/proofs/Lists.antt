@@ -1,8 +1,8 @@
 -- A list of files: its first one, and the others after it.
 use Rattle.std.proofs.Common.{◌≡◌, ◌<◌, ◌≤◌, ◌-◌, List, [], ◌∷◌, length, get_or, take, drop, map, refl, sym}
-use Rattle.std.proofs.Common.{ap, arith, length-take, length-drop}
+use Rattle.std.proofs.Common.{ap, arith, length-take, length-drop, subst}
 use Rattle.std.proofs.lemmas.List.{take_all}
-use Rattle.ijtag_core.specs.Files.{seen_file}
+use Rattle.ijtag_core.specs.Files.{AreApart, seen_file}
 use Rattle.ijtag_core.specs.declared.made_files.MadeFile.{MadeFile}
 
 -- what stands for a file where there is none
@@ -29,6 +29,10 @@ cut (file ∷ files) some =
 pub seen_cut : (files : List MadeFile) → 1 ≤ length files
     → map seen_file files ≡ seen_file (first_of files) ∷ map seen_file (others_of files)
 seen_cut files some = ap (map seen_file) (cut files some)
+
+pub apart_cut : (files : List MadeFile) → 1 ≤ length files → AreApart (map seen_file files)
+    → AreApart (seen_file (first_of files) ∷ map seen_file (others_of files))
+apart_cut files some apart = subst AreApart (seen_cut files some) apart
 
 pub none_left : (files : List MadeFile) → length files < 1 → files ≡ []
 none_left [] few = refl

@@ -4,7 +4,6 @@ use Rattle.ij_io.specs.declared.fault.StoreFault.{StoreFault}
 use Rattle.ij_io.specs.declared.fault.StoreFault.TheVariants.{Failed, OutOfMemory}
 use Rattle.ij_io.specs.Bytes.{Adds, AddsPart}
 use Rattle.ij_io.specs.Causes.{Rose}
-use Rattle.ij_io.proofs.Adding.{adds_none}
 use Rattle.svf_writer.specs.SeenCommands.{SeenCommand}
 use Rattle.ijtag_work.specs.Filed.{IsPartFiled}
 use Rattle.ijtag_work.specs.Late.{IsPartOf}
@@ -14,6 +13,7 @@ use Rattle.ijtag_work.specs.Order.{commands_of, made, made_of, made_totals, run_
 use Rattle.ijtag_work.specs.Runs.{Counts, IsDone, Seen}
 use Rattle.ijtag_work.specs.Seen.{output_stop}
 use Rattle.ijtag_work.specs.Stops.{Stop, Usage, Refuses, ReadFault, WriteFault, OutputFault, NoMemory}
+use Rattle.ijtag_work.proofs.Ends.{all_done, file_cut, text_cut}
 use Rattle.ijtag_work.proofs.Running.{found}
 use Rattle.ijtag_core.specs.Svf.{HasCommands, IsPlayStop, IsSvfStop}
 
@@ -51,14 +51,8 @@ module _ (svf : List ℕ) (it : SeenAccepted) where
       | inl same ↦ inl (same, silent)
       | inr part ↦
           let some = found svf it part.bytes part.given in
-          inr
-          (record {
-            leaves = left part.bytes some.0;
-            given = left_given part.bytes some.0 part.given some.1;
-            files = inr (part.held, tt);
-            printed = adds_none (made_totals it some.0) silent;
-            in_order = inl silent;
-          })
+          file_cut (made_of [] svf it) svf part.bytes (made_totals it some.0) (run_differs it some.0)
+          (left_given part.bytes some.0 part.given some.1) old new part.held silent
     ]
 
     module _ (commands : List SeenCommand)
@@ -72,23 +66,12 @@ module _ (svf : List ℕ) (it : SeenAccepted) where
 
       pub line_part : AddsPart old.printed new.printed (made_totals it commands)
           → IsPartOf (made_of [] svf it) old new
-      line_part part =
-          inr
-          (record {
-            leaves = left h.bytes commands;
-            given = left_given h.bytes commands h.given h.found;
-            files = inl (h.held, tt);
-            printed = part;
-            in_order = inr (h.held, tt);
-          })
+      line_part =
+          text_cut (made_of [] svf it) svf h.bytes (made_totals it commands) (run_differs it commands)
+          (left_given h.bytes commands h.given h.found) old new h.held
 
       pub line_done : (differs : Bool) → Adds old.printed new.printed (made_totals it commands)
           → differs ≡ run_differs it commands → IsDone (made_of [] svf it) old new differs
-      line_done differs printed verdict =
-          record {
-            leaves = left h.bytes commands;
-            given = left_given h.bytes commands h.given h.found;
-            files = (h.held, tt);
-            printed = printed;
-            verdict = verdict;
-          }
+      line_done =
+          all_done (made_of [] svf it) svf h.bytes (made_totals it commands) (run_differs it commands)
+          (left_given h.bytes commands h.given h.found) old new h.held

@@ -1,10 +1,9 @@
 -- What a mux test does after the texts that were accepted.
 use Rattle.std.specs.Prelude.{option_map}
-use Rattle.std.proofs.Common.{◌≡◌, ◌∙◌, ◌++◌, inl, inr, refl, ap, false, ℕ, Some, List}
+use Rattle.std.proofs.Common.{◌≡◌, ◌∙◌, ◌++◌, refl, ap, false, ℕ, Some, List}
 use Rattle.ij_io.specs.Bytes.{Adds, AddsPart}
 use Rattle.ij_io.specs.Files.{file_at}
 use Rattle.ij_io.specs.Pieces.{HoldsPart}
-use Rattle.ij_io.proofs.Adding.{adds_none}
 use Rattle.net_graph.specs.Devices.{IsDevice}
 use Rattle.svf_writer.specs.Written.{preface}
 use Rattle.mux_test.specs.Flushes.{SeenTestScan, test_scans}
@@ -12,68 +11,39 @@ use Rattle.mux_test.specs.Laws.{IsTestable, RowsAreReached, StuckAreFound, Tests
 use Rattle.mux_test.specs.Reading.{TestsAreReadAgain}
 use Rattle.mux_test.specs.Texts.{ScansMakeTheText, scans_text}
 use Rattle.ijtag_stages.specs.Nested.{IsNested}
-use Rattle.ijtag_stages.specs.Refusals.{Refusal}
 use Rattle.ijtag_work.specs.Accepted.{SeenAccepted}
 use Rattle.ijtag_work.specs.Late.{IsPartOf}
 use Rattle.ijtag_work.specs.Leaves.{Leaves}
 use Rattle.ijtag_work.specs.Order.{mux_tested, ran, test_report_of, test_text_of, within_limit}
 use Rattle.ijtag_work.specs.Runs.{IsDone, Seen}
 use Rattle.ijtag_work.specs.Tested.{TestsRight}
-use Rattle.ijtag_work.proofs.Whole.{whole_is_part}
+use Rattle.ijtag_work.proofs.Ends.{all_done, file_cut, text_cut}
 
 module _ (name : List ℕ) (it : SeenAccepted) (short : (within_limit it).gives tt) where
-  abbrev left : Leaves
-  left = ran name (test_text_of it) (test_report_of it) false
-
   -- all of it could be done
   pub can_test : (leaves : Leaves) × (mux_tested name it).gives leaves
-  can_test = (left, (tt, short, refl))
+  can_test = (ran name (test_text_of it) (test_report_of it) false, (tt, short, refl))
 
   module _ (old new : Seen) where
     -- the file is cut off
     pub test_part : HoldsPart old.files new.files name (test_text_of it)
         → new.printed ≡ old.printed → IsPartOf (mux_tested name it) old new
-    test_part part silent =
-        inr (record {
-          leaves = left;
-          given = (tt, short, refl);
-          files = inr (part, tt);
-          printed = adds_none (test_report_of it) silent;
-          in_order = inl silent;
-        })
+    test_part =
+        file_cut (mux_tested name it) name (test_text_of it) (test_report_of it) false
+        (tt, short, refl) old new
 
-    module _ (whole : file_at new.files name ≡ option_map (λ _. Some (test_text_of it)) old.files) where
-      -- the report is cut off
-      pub lines_part : AddsPart old.printed new.printed (test_report_of it)
-          → IsPartOf (mux_tested name it) old new
-      lines_part part =
-          inr (record {
-            leaves = left;
-            given = (tt, short, refl);
-            files = inr (
-              whole_is_part old.files
-                  new.files name (test_text_of it) whole,
-              tt,
-            );
-            printed = part;
-            in_order = inr (whole, tt);
-          })
+    -- the report is cut off
+    pub lines_part : file_at new.files name ≡ option_map (λ _. Some (test_text_of it)) old.files
+        → AddsPart old.printed new.printed (test_report_of it) → IsPartOf (mux_tested name it) old new
+    lines_part =
+        text_cut (mux_tested name it) name (test_text_of it) (test_report_of it) false
+        (tt, short, refl) old new
 
-      pub test_done : Adds old.printed new.printed (test_report_of it)
-          → IsDone (mux_tested name it) old new false
-      test_done printed = record {
-        leaves = left;
-        given = (tt, short, refl);
-        files =
-            (whole, tt);
-        printed = printed;
-        verdict = refl;
-      }
-
--- too many scans are refused as the work refuses them
-pub refusal_stops : (name : List ℕ) (it : SeenAccepted) → (r : Refusal)
-    → (within_limit it).refuses r → (mux_tested name it).refuses r
-refusal_stops name it r refuses = inl refuses
+    pub test_done : file_at new.files name ≡ option_map (λ _. Some (test_text_of it)) old.files
+        → Adds old.printed new.printed (test_report_of it) → IsDone (mux_tested name it) old new false
+    test_done whole printed =
+        all_done (mux_tested name it) name (test_text_of it) (test_report_of it) false
+        (tt, short, refl) old new whole false printed refl
 
 -- ---- the laws of mux tests, of what was accepted
 

@@ -12,7 +12,7 @@ ghost use Rattle.ijtag_work.specs.Words.{seen_audit};
 
 use crate::effect::Effect;
 use ij_io::{Shelf, Sink, StoreFault};
-use ijtag_work::{Accepted, AuditWords, Inputs, Stop, Texts, Verdict, steps_again};
+use ijtag_work::{Accepted, AuditWords, Stop, Verdict, steps_again};
 use merge_order::{bit_steps_are_few, bit_steps_are_of_the_network};
 use std::alloc::Global;
 use svf_audit::{audits_law, put_audit};
@@ -83,16 +83,10 @@ impl<'w> Effect for AuditWords<'w> {
 
     ghost promise = { λ _ _ _ it differs. differs ≡ false → PlayAsMeant it };
 
-    fn load_texts<'a, S: Shelf>(
-        &'a self,
-        alloc: Global,
-        shelf: &mut S,
-    ) -> Result<Vec<Vec<u8>>, Stop<'a>> {
-        self.load(alloc, shelf)
-    }
+    type Words = AuditWords<'w>;
 
-    fn texts_in<'t>(&'t self, loaded: &'t [Vec<u8>]) -> Texts<'t> {
-        self.texts(loaded)
+    fn words(&self) -> &Self::Words {
+        self
     }
 
     fn prints(&self) -> bool {

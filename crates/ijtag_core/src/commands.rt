@@ -4,7 +4,7 @@ ghost use Rattle.ijtag_work.specs.Command.{Command as NamedCommand};
 ghost use Rattle.ijtag_work.specs.Order.{task as task_named};
 ghost use Rattle.std.specs.Prelude.{◌≡◌};
 ghost use Rattle.ijtag_work.specs.Runs.{AreSettled};
-ghost use Rattle.ijtag_work.specs.Stops.{usage_line};
+ghost use Rattle.ijtag_work.specs.Stops.{usage_text};
 ghost use Rattle.ijtag_work.specs.Words.{seen_command};
 
 use crate::effect::accept_and_act;
@@ -24,10 +24,10 @@ impl<'w> Command for CommandWords<'w> {
 
     ghost promise = { IsPromised };
 
-    ghost usage_line = { usage_line };
+    ghost usage_text = { usage_text };
 
     fn usage() -> &'static [u8]
-        ensures { result.now ≡ usage_line }
+        ensures { result.now ≡ usage_text }
     {
         b"usage: ijtag compile|play|run|direct|make|migrate|audit|muxtest\n"
     }

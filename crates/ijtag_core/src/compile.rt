@@ -5,23 +5,17 @@ ghost use Rattle.ijtag_work.specs.Words.{seen_compile};
 use crate::effect::Effect;
 use crate::svf::write_svf;
 use ij_io::{Shelf, Sink};
-use ijtag_work::{Accepted, CompileWords, Inputs, Stop, Texts, Verdict};
+use ijtag_work::{Accepted, CompileWords, ProcedureWords, Stop, Verdict};
 use std::alloc::Global;
 
 /// Writes the SVF file, from its front, and prints nothing.
 impl<'w> Effect for CompileWords<'w> {
     ghost table_row = { λ words. compile (seen_compile words) };
 
-    fn load_texts<'a, S: Shelf>(
-        &'a self,
-        alloc: Global,
-        shelf: &mut S,
-    ) -> Result<Vec<Vec<u8>>, Stop<'a>> {
-        self.procedure.load(alloc, shelf)
-    }
+    type Words = ProcedureWords<'w>;
 
-    fn texts_in<'t>(&'t self, loaded: &'t [Vec<u8>]) -> Texts<'t> {
-        self.procedure.texts(loaded)
+    fn words(&self) -> &Self::Words {
+        &self.procedure
     }
 
     fn prints(&self) -> bool {

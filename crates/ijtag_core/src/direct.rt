@@ -10,7 +10,7 @@ ghost use Rattle.ijtag_work.specs.Words.{seen_direct};
 use crate::effect::Effect;
 use direct_report::put_direct;
 use ij_io::{Shelf, Sink, StoreFault};
-use ijtag_work::{Accepted, DirectWords, Inputs, Stop, Texts, Verdict, steps_again};
+use ijtag_work::{Accepted, DirectWords, Stop, Verdict, steps_again};
 use merge_order::{bit_steps_are_few, bit_steps_are_of_the_network};
 use std::alloc::Global;
 
@@ -41,16 +41,10 @@ fn put_lines<O: Sink>(alloc: Global, it: &Accepted, out: &mut O) -> Result<Verdi
 impl<'w> Effect for DirectWords<'w> {
     ghost table_row = { λ words. direct (seen_direct words) };
 
-    fn load_texts<'a, S: Shelf>(
-        &'a self,
-        alloc: Global,
-        shelf: &mut S,
-    ) -> Result<Vec<Vec<u8>>, Stop<'a>> {
-        self.load(alloc, shelf)
-    }
+    type Words = DirectWords<'w>;
 
-    fn texts_in<'t>(&'t self, loaded: &'t [Vec<u8>]) -> Texts<'t> {
-        self.texts(loaded)
+    fn words(&self) -> &Self::Words {
+        self
     }
 
     fn prints(&self) -> bool {

@@ -1,24 +1,22 @@
 // A command that accepts texts: what it does with them, and its run.
-ghost use Rattle.std.specs.Prelude.{◌≡◌, ◌≤◌, ℕ, List, Option, Some, Bool, length, IfOk, IfErr, OnOk, OnErr};
+ghost use Rattle.std.specs.Prelude.{◌≡◌, ◌≤◌, ℕ, List, Option, Bool, IfOk, IfErr, OnOk, OnErr};
 ghost use Rattle.std.specs.Bool.{OnTrue, OnFalse};
 ghost use Rattle.ij_io.specs.Causes.{SameCounts};
 ghost use Rattle.ij_io.specs.Files.{Files, file_at};
 ghost use Rattle.ijtag_work.specs.Accepted.{SeenAccepted};
-ghost use Rattle.ijtag_work.specs.Follows.{AreTexts, LoadsAndFollows, seen_texts};
-ghost use Rattle.ijtag_work.specs.Inputs.{loads_of, texts_of};
+ghost use Rattle.ijtag_work.specs.Inputs.{loads_of};
 ghost use Rattle.ijtag_work.specs.Late.{IsLateStop, IsPartOf};
-ghost use Rattle.ijtag_work.specs.Loads.{loaded, names_of};
+ghost use Rattle.ijtag_work.specs.Loads.{names_of};
 ghost use Rattle.ijtag_work.specs.Promises.{AcceptedWith};
 ghost use Rattle.ijtag_work.specs.Runs.{AreFirstWritten, IsDone, IsPartDone, IsStop, OnlyTheseChange};
 ghost use Rattle.ijtag_work.specs.Runs.{OnlyTheseRise, counts, seen};
 ghost use Rattle.ijtag_work.specs.Seen.{seen_stop, differing};
 ghost use Rattle.ijtag_work.specs.Stops.{IsEarly};
 ghost use Rattle.ijtag_work.specs.Task.{Row, task_of, work};
-ghost use Rattle.ijtag_work.specs.Using.{AreShortTexts, CanUse, needs_in, needs_of, seen_accepted};
-ghost use Rattle.ijtag_work.specs.Using.{seen_named};
+ghost use Rattle.ijtag_work.specs.Using.{CanUse, needs_in, seen_accepted};
 
 use ij_io::{Shelf, Sink};
-use ijtag_work::{Accepted, Stop, Texts, Verdict, accept};
+use ijtag_work::{Accepted, Inputs, Stop, Verdict, accept};
 use std::alloc::Global;
 
 /// What a command does with the texts that it loads.
@@ -31,31 +29,12 @@ pub trait Effect {
     ghost promise: { Self → Option Files → (List ℕ → Option (Option (List ℕ))) → SeenAccepted
         → Bool → Type 0 } = { λ _ _ _ _ _. Unit {0} };
 
-    /// Loads the files of its texts in their order, each once, and stops at the first that can't be loaded or
-    /// is too long. No file changes, and the counts of no other names.
-    fn load_texts<'a, S: Shelf>(
-        &'a self,
-        alloc: Global,
-        shelf: &mut S,
-    ) -> Result<Vec<Vec<u8>>, Stop<'a>>
-        ensures follows { LoadsAndFollows (S.files shelf.old) (loads_of (table_row self.now).inputs)
-            (S.load_faults shelf.old) (S.load_faults shelf.new)
-            (loaded (S.files shelf.old) (loads_of (table_row self.now).inputs))
-            (λ texts. seen_texts texts.items) result }
-        ensures texts { IfOk result
-            (λ texts. AreTexts (length (loads_of (table_row self.now).inputs)) (seen_texts texts.items)) }
-        ensures files { S.files shelf.new ≡ S.files shelf.old }
-        ensures others { OnlyTheseRise (names_of (loads_of (table_row self.now).inputs))
-            (S.load_faults shelf.old) (S.load_faults shelf.new) }
-        ensures stores { SameCounts (S.store_faults shelf.old) (S.store_faults shelf.new) };
+    /// The words that name the files of its texts.
+    type Words: Inputs;
 
-    /// The texts by what they are, of those that were loaded.
-    fn texts_in<'t>(&'t self, loaded: &'t [Vec<u8>]) -> Texts<'t>
-        requires { AreTexts (length (loads_of (table_row self.now).inputs)) (seen_texts loaded.now) }
-        ensures texts { texts_of (table_row self.now).inputs (seen_texts loaded.now)
-            ≡ Some (seen_named result) }
-        ensures short { AreShortTexts (seen_named result) }
-        ensures needs { needs_of (seen_named result) ≡ needs_in (table_row self.now).inputs };
+    /// These words.
+    fn words(&self) -> &Self::Words
+        ensures { Self.Words.named result.now ≡ (table_row self.now).inputs };
 
     /// Whether it prints on the output.
     fn prints(&self) -> bool
@@ -139,6 +118,8 @@ pub fn accept_and_act<'a, E: Effect, S: Shelf, O: Sink>(
     shelf: &mut S,
     out: &mut O,
 ) -> Result<Verdict, Stop<'a>>
+where
+    E::Words: 'a,
     ensures done { IfOk result
         (λ verdict. IsDone (work (S.files shelf.old) (task_of (E.table_row effect.now)))
         (seen S.files O.taken shelf.old out.old)
@@ -162,8 +143,9 @@ pub fn accept_and_act<'a, E: Effect, S: Shelf, O: Sink>(
     ensures stores { OnlyTheseRise (E.table_row effect.now).writes
         (S.store_faults shelf.old) (S.store_faults shelf.new) }
 {
-    let texts = effect.load_texts(alloc, shelf)?;
-    let it = accept(alloc, &effect.texts_in(&texts))?;
+    let words = effect.words();
+    let texts = words.load(alloc, shelf)?;
+    let it = accept(alloc, &words.texts(&texts))?;
     match act_and_flush(alloc, effect, &it, shelf, out) {
         Ok(verdict) => Ok(verdict),
         Err(stop) => Err(stop),

@@ -9,7 +9,7 @@ ghost use Rattle.ijtag_work.specs.Headline.{LeavesRightSvf};
 ghost use Rattle.ijtag_work.specs.Leaves.{Leaves};
 ghost use Rattle.ijtag_work.specs.Order.{task};
 ghost use Rattle.ijtag_work.specs.Runs.{IsOrMemory, status_if};
-ghost use Rattle.ijtag_work.specs.Stops.{usage_line};
+ghost use Rattle.ijtag_work.specs.Stops.{usage_text};
 ghost use Rattle.ijtag_work.specs.Task.{work};
 
 use crate::top::ijtag;
@@ -28,7 +28,7 @@ pub fn ijtag_in_memory(
 ) -> Status
     ensures headline { IfDone result (λ differs. LeavesRightSvf (Some (sure_files_in shelf.old))
         (λ name. Some (sure_files_in shelf.new name)) differs (command_in words.now.items)) }
-    ensures run { IsRun in_memory task usage_line (command_in words.now.items)
+    ensures run { IsRun in_memory task usage_text (command_in words.now.items)
         (world shelf.old out.old err.old) (world shelf.new out.new err.new) result }
     ensures complete { IfSome (command_in words.now.items) (λ command. (leaves : Leaves)
         → (work (Some (sure_files_in shelf.old)) (task command)).gives leaves

@@ -13,7 +13,7 @@ ghost use Rattle.ijtag_core.specs.Files.{AreApart, IsWriteStopOf, OthersAllStay,
 ghost use Rattle.ijtag_core.specs.Files.{text_of, texts_of};
 
 use design_maker::Made;
-use ij_io::{Shelf, StoreFault};
+use ij_io::Shelf;
 use ij_text::SOURCE_LIMIT;
 use ijtag_stages::{Stage, StageFault, refused_name};
 use ijtag_work::{MadeName, Stop, write_file};
@@ -84,8 +84,7 @@ fn write_one<'a, S: Shelf>(
     let name = file.name.text(alloc)?;
     match write_file(name.as_str(), file.text, shelf) {
         Ok(()) => Ok(()),
-        Err(StoreFault::Failed) => Err(Stop::WriteMade(file.name)),
-        Err(StoreFault::OutOfMemory) => Err(Stop::OutOfMemory),
+        Err(fault) => Err(Stop::of_made(fault, file.name)),
     }
 }
 

@@ -15,7 +15,7 @@ ghost use Rattle.ijtag_core.specs.Svf.{HasCommands, IsPlayStop, IsSvfStop};
 
 use crate::made_totals::put_report;
 use crate::svf::write_commands;
-use ij_io::{Shelf, Sink, StoreFault};
+use ij_io::{Shelf, Sink};
 use ijtag_work::{Accepted, MadeName, Stop, Verdict};
 use std::alloc::Global;
 use svf_writer::Commands;
@@ -47,8 +47,7 @@ fn write_svf<'a, S: Shelf>(
     let text = name.text(alloc)?;
     match write_commands(alloc, it, text.as_str(), shelf) {
         Ok(commands) => Ok(commands),
-        Err(StoreFault::Failed) => Err(Stop::WriteMade(name)),
-        Err(StoreFault::OutOfMemory) => Err(Stop::OutOfMemory),
+        Err(fault) => Err(Stop::of_made(fault, name)),
     }
 }
 

@@ -16,7 +16,7 @@ ghost use Rattle.ijtag_core.specs.Testing.{IsReportOf, IsTestOf};
 use crate::effect::Effect;
 use ij_io::{Shelf, Sink, StoreFault};
 use ijtag_stages::{Stage, StageFault, refused_limit};
-use ijtag_work::{Accepted, Inputs, MuxTestWords, Stop, Texts, Verdict};
+use ijtag_work::{Accepted, MuxTestWords, NetworkWords, Stop, Verdict};
 use mux_test::{MuxFault, MuxTest, mux_tests_law, put_test_file, put_test_report};
 use std::alloc::Global;
 
@@ -93,16 +93,10 @@ impl<'w> Effect for MuxTestWords<'w> {
 
     ghost promise = { λ words files file it _. HasRightTest files (file (seen_mux_test words).svf) it };
 
-    fn load_texts<'a, S: Shelf>(
-        &'a self,
-        alloc: Global,
-        shelf: &mut S,
-    ) -> Result<Vec<Vec<u8>>, Stop<'a>> {
-        self.network.load(alloc, shelf)
-    }
+    type Words = NetworkWords<'w>;
 
-    fn texts_in<'t>(&'t self, loaded: &'t [Vec<u8>]) -> Texts<'t> {
-        self.network.texts(loaded)
+    fn words(&self) -> &Self::Words {
+        &self.network
     }
 
     fn prints(&self) -> bool {

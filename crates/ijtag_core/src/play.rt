@@ -10,7 +10,7 @@ ghost use Rattle.ijtag_work.specs.Words.{seen_play};
 use crate::effect::Effect;
 use bench_report::put_play;
 use ij_io::{Shelf, Sink, StoreFault};
-use ijtag_work::{Accepted, Inputs, PlayWords, Stop, Texts, Verdict};
+use ijtag_work::{Accepted, PlayWords, Stop, Verdict};
 use std::alloc::Global;
 
 /// Plays commands on the bench of a network and writes the report. A refusal leaves a first part of the
@@ -39,16 +39,10 @@ fn put_lines<O: Sink>(alloc: Global, it: &Accepted, out: &mut O) -> Result<Verdi
 impl<'w> Effect for PlayWords<'w> {
     ghost table_row = { λ words. play (seen_play words) };
 
-    fn load_texts<'a, S: Shelf>(
-        &'a self,
-        alloc: Global,
-        shelf: &mut S,
-    ) -> Result<Vec<Vec<u8>>, Stop<'a>> {
-        self.load(alloc, shelf)
-    }
+    type Words = PlayWords<'w>;
 
-    fn texts_in<'t>(&'t self, loaded: &'t [Vec<u8>]) -> Texts<'t> {
-        self.texts(loaded)
+    fn words(&self) -> &Self::Words {
+        self
     }
 
     fn prints(&self) -> bool {

@@ -30,12 +30,12 @@ pub trait Command {
     /// run ends with this verdict.
     ghost promise: { Named → Option Files → (List ℕ → Option (Option (List ℕ))) → Bool → Type 0 };
 
-    /// The line that is printed where the words are no command, and its line feed.
-    ghost usage_line: { List ℕ };
+    /// The text that is printed where the words are no command, line feeds included.
+    ghost usage_text: { List ℕ };
 
-    /// This line.
+    /// This text.
     fn usage() -> &'static [u8]
-        ensures { result.now ≡ usage_line };
+        ensures { result.now ≡ usage_text };
 
     /// Two things that the work of a command may leave differ alike, and where it may leave one it meets no
     /// refusal.
@@ -127,7 +127,7 @@ pub fn run_program<C: Command, S: Shelf, O: Sink, E: Sink>(
     ensures promise { IfDone result (λ differs. IfSome (option_map C.named command.now)
         (λ command. C.promise command (S.files shelf.old) (file_at (S.files shelf.new)) differs)) }
     ensures run { IsRun (views S.files S.load_faults S.store_faults O.taken O.handed
-        O.faults E.taken E.faults) C.task C.usage_line
+        O.faults E.taken E.faults) C.task C.usage_text
         (option_map C.named command.now) (world shelf.old out.old err.old)
         (world shelf.new out.new err.new) result }
 {

@@ -16,7 +16,7 @@ use crate::effect::Effect;
 use crate::svf::{make_svf, read_commands};
 use headline::procedures_are_plannable;
 use ij_io::{Shelf, Sink, StoreFault};
-use ijtag_work::{Accepted, Inputs, Procedure, RunWords, Stop, Texts, Verdict, write_file};
+use ijtag_work::{Accepted, DirectWords, Procedure, RunWords, Stop, Verdict, write_file};
 use merge_order::{bit_steps_are_few, bit_steps_are_of_the_network};
 use run_report::put_run;
 use std::alloc::Global;
@@ -79,16 +79,10 @@ fn put_lines<O: Sink>(
 impl<'w> Effect for RunWords<'w> {
     ghost table_row = { λ words. run (seen_run words) };
 
-    fn load_texts<'a, S: Shelf>(
-        &'a self,
-        alloc: Global,
-        shelf: &mut S,
-    ) -> Result<Vec<Vec<u8>>, Stop<'a>> {
-        self.direct.load(alloc, shelf)
-    }
+    type Words = DirectWords<'w>;
 
-    fn texts_in<'t>(&'t self, loaded: &'t [Vec<u8>]) -> Texts<'t> {
-        self.direct.texts(loaded)
+    fn words(&self) -> &Self::Words {
+        &self.direct
     }
 
     fn prints(&self) -> bool {

@@ -7,7 +7,7 @@ ghost use Rattle.ijtag_work.specs.Ends.{IfDone, IsRun, views, world};
 ghost use Rattle.ijtag_work.specs.Headline.{LeavesRightSvf};
 ghost use Rattle.ijtag_work.specs.Order.{task};
 ghost use Rattle.ijtag_work.specs.Runs.{counts};
-ghost use Rattle.ijtag_work.specs.Stops.{usage_line};
+ghost use Rattle.ijtag_work.specs.Stops.{usage_text};
 ghost use Rattle.ijtag_work.specs.Tested.{TestIsRight};
 
 use crate::program::run_program;
@@ -74,7 +74,7 @@ pub fn ijtag<S: Shelf, O: Sink, E: Sink>(
     // How it ends, for which reasons, what it prints then, and what changes: see `specs/Ends` of
     // `ijtag_work`.
     ensures run { IsRun (views S.files S.load_faults S.store_faults O.taken O.handed
-        O.faults E.taken E.faults) task usage_line
+        O.faults E.taken E.faults) task usage_text
         (command_in words.now.items) (world shelf.old out.old err.old)
         (world shelf.new out.new err.new) result }
 {

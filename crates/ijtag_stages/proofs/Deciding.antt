@@ -25,20 +25,12 @@ use Rattle.svf_reader.specs.declared.fault.SvfFault.TheVariants.{LeftOut, SvfSyn
 use Rattle.svf_reader.specs.declared.fault.SvfFault.TheVariants.{TdiMissing, OutOfMemory}
 use Rattle.svf_writer.specs.SeenCommands.{SeenCommand}
 use Rattle.icl_lexer.specs.Values.{SeenModule}
-use Rattle.icl_declarations.specs.Faults.{Fault}
 use Rattle.icl_references.specs.Roles.{CellOf}
 use Rattle.icl_elab.specs.Hierarchy.{hierarchy}
 use Rattle.bench_file.specs.Device.{device}
 use Rattle.bench_file.specs.Fits.{fitted}
-use Rattle.bench_file.specs.declared.fault.DeviceFault.{DeviceFault}
-use Rattle.bench_file.specs.declared.fault.FitsFault.{FitsFault}
 use Rattle.table_file.specs.Tables.{SeenTable, tables}
-use Rattle.table_file.specs.declared.fault.TableFault.{TableFault}
-use Rattle.instruments.specs.Seen.{SeenModel}
 use Rattle.icl_signals.specs.Connecting.{network}
-use Rattle.icl_signals.specs.PlainNets.{NetOf, seen_net}
-use Rattle.icl_signals.proofs.OneNet.{one_net}
-use Rattle.icl_signals.specs.Refusals.{Refusal as ConnectRefusal}
 use Rattle.net_graph.specs.declared.device.Device.{Device}
 use Rattle.net_graph.specs.declared.net.Net.{Net}
 use Rattle.net_graph.specs.SeenSteps.{SeenStep}
@@ -58,7 +50,8 @@ use Rattle.ijtag_stages.specs.Fitted.{fit_refusal, models_of}
 use Rattle.ijtag_stages.specs.IclText.{lex_refusal, parse_refusal, icl_tokens, icl_design, icl_text}
 use Rattle.ijtag_stages.specs.Laws.{StagesAreDecided}
 use Rattle.ijtag_stages.specs.Nested.{IsNested, IsUnnested, nested, nest_refusal}
-use Rattle.ijtag_stages.specs.Networks.{NestedNet, network_below}
+use Rattle.ijtag_stages.specs.Networks.{network_below}
+use Rattle.ijtag_stages.specs.declared.network.Network.{Network}
 use Rattle.ijtag_stages.specs.PdlText.{pdl_text, pdl_refusal}
 use Rattle.ijtag_stages.specs.Procedure.{procedure, step_refusal}
 use Rattle.ijtag_stages.specs.Refusals.{Refusal, refused_at, refused_word}
@@ -66,7 +59,7 @@ use Rattle.ijtag_stages.specs.SvfText.{svf_text, svf_fault}
 use Rattle.ijtag_stages.specs.TablesText.{tables_fault, tables_text}
 use Rattle.ijtag_stages.specs.Work.{IsDecided}
 use Rattle.ijtag_stages.specs.declared.refusal.Stage.TheVariants.{Icl, Svf}
-use Rattle.ijtag_stages.proofs.Turns.{give_decided, in_turn_decided}
+use Rattle.ijtag_stages.proofs.Turns.{give_decided, in_turn_decided, reported_decided}
 use Rattle.std.proofs.lemmas.Option.{same_Some}
 
 tokens_one : TokenizationIsUnique → (text : List ℕ) (tokens others : List Token) → AreTokens text tokens
@@ -131,97 +124,26 @@ read_not_refused text commands (HexWide at) r read is told = let refused = is.1 
 read_not_refused text commands (TdiMissing at) r read is told = let refused = is.1 in cc
 read_not_refused text commands OutOfMemory r read is told = cc
 
-device_not_refused : (text : List ℕ) (of : Device) (fault : DeviceFault)
-    → device text ≡ Ok of → device text ≡ Err fault → ⊥
-device_not_refused text of fault read refused = cc
-
-device_alike : (text : List ℕ) (fault other : DeviceFault) (r s : Refusal) → device text ≡ Err fault
-    → device text ≡ Err other → device_fault fault ≡ Some r → device_fault other ≡ Some s → r ≡ s
-device_alike text fault other r s a b p q = cc
-
 device_decided : (text : List ℕ) → IsDecided (device_text text)
 unfolding device_text
-device_decided text =
-    record {
-      one = λ a b p q. ok_is a b (device text) p q;
-      apart = λ a r p q. device_not_refused text a q.0 p q.1;
-      alike = λ r s p q. device_alike text p.0 q.0 r s p.1 q.1 p.2 q.2;
-    }
-
-tables_not_refused : (text : List ℕ) (ts : List SeenTable) (fault : TableFault)
-    → tables text ≡ Ok ts → tables text ≡ Err fault → ⊥
-tables_not_refused text ts fault read refused = cc
-
-tables_alike : (text : List ℕ) (fault other : TableFault) (r s : Refusal) → tables text ≡ Err fault
-    → tables text ≡ Err other → tables_fault fault ≡ Some r → tables_fault other ≡ Some s → r ≡ s
-tables_alike text fault other r s a b p q = cc
+device_decided text = reported_decided (device text) device_fault
 
 tables_decided : (text : List ℕ) → IsDecided (tables_text text)
 unfolding tables_text
-tables_decided text =
-    record {
-      one = λ a b p q. ok_is a b (tables text) p q;
-      apart = λ a r p q. tables_not_refused text a q.0 p
-          q.1;
-      alike = λ r s p q. tables_alike text p.0 q.0 r s p.1 q.1 p.2 q.2;
-    }
-
-hierarchy_not_refused : (modules : List SeenModule) (top : List ℕ) (cells : List CellOf) (fault : Fault)
-    → hierarchy modules top ≡ Ok cells → hierarchy modules top ≡ Err fault → ⊥
-hierarchy_not_refused modules top cells fault made refused = cc
-
-hierarchy_alike : (modules : List SeenModule) (top : List ℕ) (fault other : Fault) (r s : Refusal)
-    → hierarchy modules top ≡ Err fault → hierarchy modules top ≡ Err other
-    → r ≡ elab_refusal fault → s ≡ elab_refusal other → r ≡ s
-hierarchy_alike modules top fault other r s a b p q = cc
+tables_decided text = reported_decided (tables text) tables_fault
 
 pub elaborated_decided : (modules : List SeenModule) (top : List ℕ) → IsDecided (elaborated modules top)
 unfolding elaborated
-elaborated_decided modules top =
-    record {
-      one = λ a b p q. ok_is a b (hierarchy modules top) p q;
-      apart = λ a r p q. hierarchy_not_refused
-          modules top a q.0 p q.1;
-      alike = λ r s p q. hierarchy_alike modules top p.0 q.0 r s p.1 q.1 p.2 q.2;
-    }
-
-network_not_refused : (cells : List CellOf) (link instr : List ℕ) (net : NetOf) (fault : ConnectRefusal)
-    → network cells link instr ≡ Ok net → network cells link instr ≡ Err fault → ⊥
-network_not_refused cells link instr net fault made refused = cc
-
-network_alike : (cells : List CellOf) (link instr : List ℕ) (fault other : ConnectRefusal) (r s : Refusal)
-    → network cells link instr ≡ Err fault → network cells link instr ≡ Err other
-    → r ≡ connect_refusal fault → s ≡ connect_refusal other → r ≡ s
-network_alike cells link instr fault other r s a b p q = cc
+elaborated_decided modules top = reported_decided (hierarchy modules top) (λ fault. Some (elab_refusal fault))
 
 pub connected_decided : (cells : List CellOf) (of : Device) → IsDecided (connected cells of)
 unfolding connected
 connected_decided cells of =
-    record {
-      one = λ a b p q. one_net a b
-          (ok_is (seen_net a) (seen_net b) (network cells of.link.items of.instr.items) p q);
-      apart = λ a r p q. network_not_refused cells of.link.items of.instr.items (seen_net a) q.0 p q.1;
-      alike = λ r s p q. network_alike cells of.link.items of.instr.items p.0 q.0 r s p.1 q.1 p.2 q.2;
-    }
-
-fit_not_refused : (net : Net) (ts : List SeenTable) (models : List SeenModel) (fault : FitsFault)
-    → fitted net ts ≡ Ok models → fitted net ts ≡ Err fault → ⊥
-fit_not_refused net ts models fault made refused = cc
-
-fit_alike : (net : Net) (ts : List SeenTable) (fault other : FitsFault) (r s : Refusal)
-    → fitted net ts ≡ Err fault → fitted net ts ≡ Err other → fit_refusal net fault ≡ Some r
-    → fit_refusal net other ≡ Some s → r ≡ s
-fit_alike net ts fault other r s a b p q = cc
+    reported_decided (network cells of.link.items of.instr.items) (λ fault. Some (connect_refusal fault))
 
 fit_decided : (net : Net) (ts : List SeenTable) → IsDecided (models_of net ts)
 unfolding models_of
-fit_decided net ts =
-    record {
-      one = λ a b p q. ok_is a b (fitted net ts) p q;
-      apart = λ a r p q. fit_not_refused net ts a q.0 p
-          q.1;
-      alike = λ r s p q. fit_alike net ts p.0 q.0 r s p.1 q.1 p.2 q.2;
-    }
+fit_decided net ts = reported_decided (fitted net ts) (fit_refusal net)
 
 -- how a cause is reported
 abbrev told_cause : Cause → Place → Refusal
@@ -277,12 +199,12 @@ steps_not_refused : (all : BitStepsOf) (xs : List SeenStep) (fault : StepFault)
     → all ≡ record { steps = xs; fault = None } → all.fault ≡ Some fault → ⊥
 steps_not_refused all xs fault p q = let none = ap (λ (b : BitStepsOf). b.fault) p in cc
 
-steps_alike : (all : BitStepsOf) (of : NetOf) (fault other : StepFault) (r s : Refusal)
+steps_alike : (all : BitStepsOf) (of : Net) (fault other : StepFault) (r s : Refusal)
     → all.fault ≡ Some fault → all.fault ≡ Some other
     → r ≡ step_refusal of fault → s ≡ step_refusal of other → r ≡ s
 steps_alike all of fault other r s a b p q = cc
 
-procedure_decided : (procs : List AProc) (network : NestedNet) (name : List ℕ)
+procedure_decided : (procs : List AProc) (network : Network) (name : List ℕ)
     → IsDecided (procedure procs network name)
 unfolding procedure
 procedure_decided procs network name =
@@ -290,7 +212,7 @@ procedure_decided procs network name =
     record {
       one = λ xs ys p q. steps_one all xs ys p q;
       apart = λ xs r p q. steps_not_refused all xs q.0 p q.1;
-      alike = λ r s p q. steps_alike all (seen_net network.net) p.0 q.0 r s p.1 q.1 p.2 q.2;
+      alike = λ r s p q. steps_alike all network.net p.0 q.0 r s p.1 q.1 p.2 q.2;
     }
 
 -- ---- the network, and all stages
@@ -301,13 +223,13 @@ module _ (one_form : OneForm) (one_cause : OneCause) (lawful_none : LawfulHasNon
     (cuttings : TokenizationIsUnique) (no_fault : CutTextsHaveNoFault) (faults : FaultsAreOne)
     (designs : DesignsAreOne) (not_refused : DesignsAreNotRefused) (refusals : RefusalsAreOne) where
   nested_apart : (net : Net) (form : Items) (fault : NestFault) (r : Refusal) → IsNested net form
-      → IsUnnested net fault → nest_refusal (seen_net net) fault ≡ Some r → ⊥
+      → IsUnnested net fault → nest_refusal net fault ≡ Some r → ⊥
   nested_apart net form fault r is not told =
       let none = lawful_none net form fault is.well_formed is.describes is.lawful not.cause in cc
 
   nested_alike : (net : Net) (fault next : NestFault) (r s : Refusal) → IsUnnested net fault
-      → IsUnnested net next → nest_refusal (seen_net net) fault ≡ Some r
-      → nest_refusal (seen_net net) next ≡ Some s → r ≡ s
+      → IsUnnested net next → nest_refusal net fault ≡ Some r
+      → nest_refusal net next ≡ Some s → r ≡ s
   nested_alike net fault next r s one two told also =
       let first : fault ≢ NestMemory = λ (e : fault ≡ NestMemory). absurd (cc) in
       let second : next ≢ NestMemory = λ (e : next ≡ NestMemory). absurd (cc) in

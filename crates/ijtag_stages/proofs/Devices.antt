@@ -1,7 +1,7 @@
 -- What the text of a device gives is a device.
 use Rattle.std.specs.Prelude.{Option, None, Ok, Err, IfOk, IfSome, nat_le}
 use Rattle.std.specs.Char.{is_ascii_hexdigit}
-use Rattle.std.proofs.Common.{◌≡◌, ◌<◌, ◌≤◌, ◌^◌, ◌==◌, ◌-◌, ◌+◌, ◌*◌, ◌&&◌, ◌||◌, refl, sym, subst, arith}
+use Rattle.std.proofs.Common.{◌≡◌, ◌<◌, ◌≤◌, ◌^◌, ◌==◌, ◌-◌, ◌+◌, ◌*◌, ◌&&◌, ◌||◌, refl, subst, arith}
 use Rattle.std.proofs.Common.{nat_lt, leb-true, ℕ, Bool, true, false, cond, Some, List, [], ◌∷◌, length}
 use Rattle.std.proofs.Common.{codes}
 use Rattle.std.specs.List.{list_all}

@@ -9,7 +9,6 @@ use Rattle.net_graph.specs.declared.net.Point.TheVariants.{Reg, Mux}
 use Rattle.net_graph.specs.Nets.{IsNet}
 use Rattle.net_tree.specs.Form.{Items, Describes}
 use Rattle.net_tree.specs.Lawful.{DrivesNone, HasReset, IsLawfulMux, IsUndriven, IsUnshared, selects_of}
-use Rattle.icl_signals.specs.PlainNets.{seen_net}
 use Rattle.nest_check.specs.Causes.{HasCause, IsFirstAt}
 use Rattle.nest_check.specs.Meeting.{IsMet, MuxesMet, RegistersMet}
 use Rattle.nest_check.specs.declared.fault.NestFault.{NestFault}
@@ -51,7 +50,7 @@ one_more P n before own k lt =
 -- a network of which neither is so
 module _ (net : Net) (is : IsNet net) (none : (form : Items) → IsNested net form
     → ⊥) (free : (fault : NestFault) (r : Refusal) → HasCause net fault
-    → nest_refusal (seen_net net) fault ≡ Some r → ⊥) where
+    → nest_refusal net fault ≡ Some r → ⊥) where
   each_register : (n : ℕ) → n ≤ length net.regs.items → (RegistersMet net n → ⊥) → ⊥
   each_register zero le not_all = not_all (λ r lt. absurd (omega (arith, lt)))
   each_register (suc n) le not_all =

@@ -1,6 +1,6 @@
 -- Each stage comes to an end: it can't be that it gives nothing and refuses nothing.
 use Rattle.std.specs.Prelude.{Option, None, Result, Ok, Err, IsSome, IfSome}
-use Rattle.std.proofs.Common.{◌≡◌, ◌∙◌, ◌≤◌, ◌-◌, ◌^◌, ◌==◌, nat_lt, nat_le, subst, refl, sym, ap, ℕ, suc}
+use Rattle.std.proofs.Common.{◌≡◌, ◌≤◌, ◌-◌, ◌^◌, ◌==◌, nat_lt, nat_le, subst, refl, sym, ap, ℕ, suc}
 use Rattle.std.proofs.Common.{Bool, true, false, cond, Some, List, [], ◌∷◌, inl, inr, length, take, drop}
 use Rattle.bench_file.specs.Device.{Link, Said, and_then as then_said, device}
 use Rattle.bench_file.specs.Device.{read_from_head_line as device_from_head, read_from_idcode_line}
@@ -13,7 +13,6 @@ use Rattle.bench_file.specs.Fits.{models_from, names_one, one_model, table_named
 use Rattle.bench_file.specs.declared.fault.DeviceFault.TheVariants.{OpcodeOnes, OpcodeTwice, OpcodeWide}
 use Rattle.bench_file.specs.declared.fault.FitsFault.{FitsFault}
 use Rattle.bench_file.specs.declared.fault.FitsFault.TheVariants.{ExtraTable, NoTable}
-use Rattle.icl_declarations.specs.Faults.{Fault}
 use Rattle.icl_elab.specs.Hierarchy.{hierarchy}
 use Rattle.icl_elab.specs.WellFormed.{IsHierarchy}
 use Rattle.icl_elab.proofs.NamedCells.{hierarchies_are_well_formed}
@@ -34,9 +33,6 @@ use Rattle.icl_parser.specs.declared.fault.ParseFault.TheVariants.{Syntax as Par
 use Rattle.icl_parser.proofs.Verdicts.{design_found, refused_at as design_refused_at}
 use Rattle.icl_references.specs.Roles.{CellOf}
 use Rattle.icl_signals.specs.Connecting.{network}
-use Rattle.icl_signals.specs.PlainNets.{NetOf, seen_net}
-use Rattle.icl_signals.proofs.OneNet.{net_of, view_back}
-use Rattle.icl_signals.specs.Refusals.{Refusal as ConnectRefusal}
 use Rattle.icl_signals.proofs.NetsWellFormed.{nets_are_well_formed}
 use Rattle.ij_bits.specs.Room.{full}
 use Rattle.ij_bits.proofs.Lists.{some_of}
@@ -73,12 +69,13 @@ use Rattle.table_file.specs.declared.fault.TableFault.TheVariants.{TableLimit, T
 use Rattle.table_file.specs.declared.fault.TableFault.TheVariants.{TableWidth}
 use Rattle.table_lines.specs.Lines.{Line, end_of as last_line, lines_of}
 use Rattle.table_lines.specs.Said.{SaidLine, instrument, line, version}
-use Rattle.ijtag_stages.specs.Connected.{connect_refusal, connected}
+use Rattle.ijtag_stages.specs.Connected.{connected}
 use Rattle.ijtag_stages.specs.DeviceText.{device_fault, device_text}
-use Rattle.ijtag_stages.specs.Elaborated.{elab_refusal, elaborated}
+use Rattle.ijtag_stages.specs.Elaborated.{elaborated}
 use Rattle.ijtag_stages.specs.Fitted.{fit_refusal, models_of}
 use Rattle.ijtag_stages.specs.IclText.{lex_refusal, parse_refusal, icl_design, icl_text, icl_tokens}
-use Rattle.ijtag_stages.specs.Networks.{NestedNet, network_below}
+use Rattle.ijtag_stages.specs.Networks.{network_below}
+use Rattle.ijtag_stages.specs.declared.network.Network.{Network}
 use Rattle.ijtag_stages.specs.PdlText.{pdl_text, pdl_refusal}
 use Rattle.ijtag_stages.specs.Procedure.{procedure, step_refusal}
 use Rattle.ijtag_stages.specs.Refusals.{Refusal}
@@ -88,7 +85,7 @@ use Rattle.ijtag_stages.specs.Laws.{StagesAreTotal}
 use Rattle.ijtag_stages.specs.Nested.{IsNested, nested}
 use Rattle.ijtag_stages.specs.Work.{IsTotal}
 use Rattle.ijtag_stages.proofs.NestedTotals.{nested_total}
-use Rattle.ijtag_stages.proofs.Turns.{give_total, in_turn_total}
+use Rattle.ijtag_stages.proofs.Turns.{give_total, in_turn_total, reported_total}
 
 -- ---- a fault that is reported, and not want of memory
 
@@ -215,11 +212,8 @@ device_told text = from_head_told (last_line text) (lines_of text)
 
 device_total : (text : List ℕ) → IsTotal (device_text text)
 unfolding device_text
-device_total text none free = by_reading (device text) refl (device_told text)
-  where
-    by_reading : (r : Said Device) → device text ≡ r → Told device_fault r → ⊥
-    by_reading (Ok of) e told = none of e
-    by_reading (Err fault) e told = (let r = some_of (device_fault fault) told in free r.0 (fault, e, r.1))
+device_total text =
+    reported_total (device text) device_fault (λ fault e. subst (Told device_fault) e (device_told text))
 
 -- ---- the tables' text
 
@@ -282,11 +276,8 @@ tables_told text = from_head_told (last_line text) (lines_of text)
 
 tables_total : (text : List ℕ) → IsTotal (tables_text text)
 unfolding tables_text
-tables_total text none free = by_reading (tables text) refl (tables_told text)
-  where
-    by_reading : (r : Result (List SeenTable) TableFault) → tables text ≡ r → Read r → ⊥
-    by_reading (Ok ts) e told = none ts e
-    by_reading (Err fault) e told = (let r = some_of (tables_fault fault) told in free r.0 (fault, e, r.1))
+tables_total text =
+    reported_total (tables text) tables_fault (λ fault e. subst (Told tables_fault) e (tables_told text))
 
 -- ---- whether the tables fit
 
@@ -345,11 +336,9 @@ module _ (net : Net) where
 
 fit_total : (net : Net) (ts : List SeenTable) → IsTotal (models_of net ts)
 unfolding models_of
-fit_total net ts none free = by_fit (fitted net ts) refl (fitted_told net ts)
-  where
-    by_fit : (r : Result (List SeenModel) FitsFault) → fitted net ts ≡ r → Told (fit_refusal net) r → ⊥
-    by_fit (Ok models) e told = none models e
-    by_fit (Err fault) e told = (let r = some_of (fit_refusal net fault) told in free r.0 (fault, e, r.1))
+fit_total net ts =
+    reported_total (fitted net ts) (fit_refusal net)
+    (λ fault e. subst (Told (fit_refusal net)) e (fitted_told net ts))
 
 -- ---- the SVF text
 
@@ -398,7 +387,7 @@ pdl_total text none free = by_reading (whole_text (words_of text)) refl
 
 -- ---- the procedure
 
-procedure_total : (procs : List AProc) (network : NestedNet) (name : List ℕ)
+procedure_total : (procs : List AProc) (network : Network) (name : List ℕ)
     → IsTotal (procedure procs network name)
 unfolding procedure
 procedure_total procs network name none free =
@@ -408,25 +397,17 @@ procedure_total procs network name none free =
     by_fault None e =
         none (bit_steps procs network.net network.form name).steps (ap (λ (o : Option StepFault).
         record { steps = (bit_steps procs network.net network.form name).steps; fault = o }) e)
-    by_fault (Some fault) e = free (step_refusal (seen_net network.net) fault) (fault, e, refl)
+    by_fault (Some fault) e = free (step_refusal network.net fault) (fault, e, refl)
 
 -- ---- the network below the top module
 
 elaborated_total : (modules : List SeenModule) (top : List ℕ) → IsTotal (elaborated modules top)
 unfolding elaborated
-elaborated_total modules top none free = by_hierarchy (hierarchy modules top) refl
-  where
-    by_hierarchy : (r : Result (List CellOf) Fault) → hierarchy modules top ≡ r → ⊥
-    by_hierarchy (Ok cells) e = none cells e
-    by_hierarchy (Err fault) e = free (elab_refusal fault) (fault, e, refl)
+elaborated_total modules top = reported_total (hierarchy modules top) _ (λ fault e. refl)
 
 connected_total : (cells : List CellOf) (d : Device) → IsTotal (connected cells d)
 unfolding connected
-connected_total cells d none free = by_network (network cells d.link.items d.instr.items) refl
-  where
-    by_network : (r : Result NetOf ConnectRefusal) → network cells d.link.items d.instr.items ≡ r → ⊥
-    by_network (Ok of) e = none (net_of of) (e ∙ ap Ok (sym (view_back of)))
-    by_network (Err fault) e = free (connect_refusal fault) (fault, e, refl)
+connected_total cells d = reported_total (network cells d.link.items d.instr.items) _ (λ fault e. refl)
 
 -- the hierarchy of modules that are written as ICL's grammar has them is well formed, and so is its network
 hierarchy_well_formed : (modules : List SeenModule) (top : List ℕ) (cells : List CellOf) → AreWritten modules
@@ -471,9 +452,9 @@ stages_total = record {
 
 -- ---- what is known of what they give
 
-pub network_is_nested : (modules : List SeenModule) (top : List ℕ) (d : Device) (network : NestedNet)
+pub network_is_nested : (modules : List SeenModule) (top : List ℕ) (d : Device) (network : Network)
     → (network_below modules top d).gives network → IsNested network.net network.form
 unfolding network_below nested
 network_is_nested modules top d network g =
     let described = g.2.2 in
-    subst (λ (n : NestedNet). IsNested n.net n.form) (sym described.2) described.1
+    subst (λ (n : Network). IsNested n.net n.form) (sym described.2) described.1

@@ -1,12 +1,45 @@
 -- Work in turn comes to one end at most where each of its parts does, and to an end where each does.
+use Rattle.std.specs.Prelude.{Option, Some, Result, Ok, Err, IsSome}
 use Rattle.std.proofs.Common.{◌≡◌, ◌∙◌, refl, sym, subst, inl, inr}
-use Rattle.ijtag_stages.specs.Work.{Work, give, never, ◌>>=◌, RefusesInTurn, IsDecided, IsTotal}
+use Rattle.ij_bits.proofs.Lists.{some_of}
+use Rattle.ijtag_stages.specs.Work.{Work, give, never, reported, ◌>>=◌, RefusesInTurn, IsDecided, IsTotal}
 
 pub give_decided : {R A : Type 0} (x : A) → IsDecided {R = R} {A = A} (give x)
 give_decided x = record { one = λ a b p q. p ∙ sym q; apart = λ a r p q. q; alike = λ r s p q. absurd p }
 
 pub never_decided : {R A : Type 0} → IsDecided {R = R} {A = A} never
 never_decided = record { one = λ a b p q. absurd p; apart = λ a r p q. q; alike = λ r s p q. absurd p }
+
+-- ---- what a function answers
+
+module _ {R A E : Type 0} (answer : Result A E) (report : E → Option R) where
+  one_value : (a b : A) → answer ≡ Ok a → answer ≡ Ok b → a ≡ b
+  one_value a b p q = cc
+
+  not_both : (a : A) (fault : E) → answer ≡ Ok a → answer ≡ Err fault → ⊥
+  not_both a fault p q = cc
+
+  one_report : (fault other : E) (r s : R) → answer ≡ Err fault → answer ≡ Err other
+      → report fault ≡ Some r → report other ≡ Some s → r ≡ s
+  one_report fault other r s p q told tells = cc
+
+  pub reported_decided : IsDecided (reported answer report)
+  reported_decided = record {
+    one = one_value;
+    apart = λ a r p q. not_both a q.0 p q.1;
+    alike = λ r s p q. one_report p.0 q.0 r s p.1 q.1 p.2 q.2;
+  }
+
+  -- where each of its faults is reported
+  pub reported_total : ((fault : E) → answer ≡ Err fault → IsSome (report fault))
+      → IsTotal (reported answer report)
+  reported_total told none free = by_answer answer refl
+    where
+      by_answer : (a : Result A E) → answer ≡ a → ⊥
+      by_answer (Ok a) e = none a e
+      by_answer (Err fault) e = let r = some_of (report fault) (told fault e) in free r.0 (fault, e, r.1)
+
+-- ---- parts in turn
 
 -- two refusals of work in turn: of the first part, or of the next one after the one value
 alike_in_turn : {R A B : Type 0} (first : Work R A) (next : A → Work R B) → IsDecided first

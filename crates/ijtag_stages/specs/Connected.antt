@@ -1,14 +1,14 @@
 -- The stage of the network: each signal of the hierarchy followed to where it ends, or the first fault (IEEE
 -- 1687-2014, ICL: AccessLink).
-use Rattle.std.specs.Prelude.{◌≡◌, List, [], ◌∷◌, Ok, Err, codes}
+use Rattle.std.specs.Prelude.{List, [], ◌∷◌, Some, codes}
 use Rattle.icl_references.specs.Roles.{CellOf}
 use Rattle.icl_signals.specs.Connecting.{network}
-use Rattle.icl_signals.specs.PlainNets.{seen_net}
 use Rattle.icl_signals.specs.Refusals.{Refusal as Fault, NoLink, Undriven, SignalLoop, BadSelect}
 use Rattle.icl_signals.specs.Refusals.{InstrumentChain}
 use Rattle.net_graph.specs.declared.device.Device.{Device}
 use Rattle.net_graph.specs.declared.net.Net.{Net}
 use Rattle.ijtag_stages.specs.Refusals.{Part, Refusal, Said, refused_at}
+use Rattle.ijtag_stages.specs.Work.{reported}
 use Rattle.ijtag_stages.specs.declared.refusal.Stage.TheVariants.{Connect}
 
 -- how a fault is reported
@@ -22,8 +22,5 @@ connect_refusal (InstrumentChain at) = refused_at Connect (codes "InstrumentChai
 
 -- the network that the device's instruction selects
 unfoldable pub connected : List CellOf → Device → Part Net
-connected cells device = record {
-  gives = λ net. network cells device.link.items device.instr.items ≡ Ok (seen_net net);
-  refuses = λ r. (fault : Fault) × (network cells device.link.items device.instr.items ≡ Err fault)
-      × (r ≡ connect_refusal fault);
-}
+connected cells device =
+    reported (network cells device.link.items device.instr.items) (λ fault. Some (connect_refusal fault))

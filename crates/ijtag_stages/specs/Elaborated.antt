@@ -1,6 +1,6 @@
 -- The stage of elaboration: the hierarchy below the top module, or the first fault of its names, values and
 -- signals (IEEE 1687-2014, ICL).
-use Rattle.std.specs.Prelude.{◌≡◌, ℕ, List, [], ◌∷◌, Ok, Err, codes}
+use Rattle.std.specs.Prelude.{ℕ, List, [], ◌∷◌, Some, codes}
 use Rattle.ij_text.specs.declared.Which.{Which}
 use Rattle.ij_text.specs.declared.Which.TheVariants.{Hierarchy, Cells, ScanBits, Muxes, Instruments, Ports}
 use Rattle.ij_text.specs.declared.Which.TheVariants.{PortBits, Width, Groups, RunLoop, RunCycles}
@@ -11,6 +11,7 @@ use Rattle.icl_declarations.specs.Faults.{InstanceLoop, Limit}
 use Rattle.icl_references.specs.Roles.{CellOf}
 use Rattle.icl_elab.specs.Hierarchy.{hierarchy}
 use Rattle.ijtag_stages.specs.Refusals.{Part, Refusal, Said, Num, refused_at, refused_name, refused_word}
+use Rattle.ijtag_stages.specs.Work.{reported}
 use Rattle.ijtag_stages.specs.declared.refusal.Stage.TheVariants.{Elab}
 
 -- the name of a limit
@@ -45,7 +46,4 @@ elab_refusal (Limit which number) =
 
 -- the hierarchy below the top module of this name
 unfoldable pub elaborated : List SeenModule → List ℕ → Part (List CellOf)
-elaborated modules top = record {
-  gives = λ cells. hierarchy modules top ≡ Ok cells;
-  refuses = λ r. (fault : Fault) × (hierarchy modules top ≡ Err fault) × (r ≡ elab_refusal fault);
-}
+elaborated modules top = reported (hierarchy modules top) (λ fault. Some (elab_refusal fault))

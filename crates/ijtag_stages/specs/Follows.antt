@@ -16,11 +16,6 @@ abbrev pub Follows : {A B : Type 0} → Part B → (A → B) → Result A StageF
 Follows work view (Ok a) = work.gives (view a)
 Follows work view (Err fault) = IsFault work fault
 
--- the same where what the work gives isn't kept, but for what is known of it
-abbrev pub IsFollowed : {A B : Type 0} → Part B → Result A StageFault → Type 0
-IsFollowed {A} {B} work (Ok a) = (b : B) × work.gives b
-IsFollowed work (Err fault) = IsFault work fault
-
 -- a fault tells this refusal, where there is one, unless memory ran out
 abbrev pub IsToldAs : Option Refusal → StageFault → Type 0
 IsToldAs refusal (RefusedStage told) = refusal ≡ Some (seen_refusal told)

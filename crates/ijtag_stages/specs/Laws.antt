@@ -12,7 +12,8 @@ use Rattle.table_file.specs.Tables.{SeenTable}
 use Rattle.ijtag_stages.specs.DeviceText.{device_text}
 use Rattle.ijtag_stages.specs.Fitted.{models_of}
 use Rattle.ijtag_stages.specs.IclText.{icl_text}
-use Rattle.ijtag_stages.specs.Networks.{NestedNet, network_below}
+use Rattle.ijtag_stages.specs.Networks.{network_below}
+use Rattle.ijtag_stages.specs.declared.network.Network.{Network}
 use Rattle.ijtag_stages.specs.PdlText.{pdl_text}
 use Rattle.ijtag_stages.specs.Procedure.{procedure}
 use Rattle.ijtag_stages.specs.SvfText.{svf_text}
@@ -28,7 +29,7 @@ pub record StagesAreDecided : Type 0 where
       → IsDecided (network_below modules top of)
   pub fit : (net : Net) (tables : List SeenTable) → IsDecided (models_of net tables)
   pub pdl : (text : List ℕ) → IsDecided (pdl_text text)
-  pub procedure : (procs : List AProc) (network : NestedNet) (name : List ℕ)
+  pub procedure : (procs : List AProc) (network : Network) (name : List ℕ)
       → IsDecided (procedure procs network name)
 
 -- and each stage comes to an end: a text, or what was made of it, is accepted or refused. (A network that is
@@ -42,7 +43,7 @@ pub record StagesAreTotal : Type 0 where
       → length text ≤ 134217728 → (icl_text text).gives modules → IsTotal (network_below modules top of)
   pub fit : (net : Net) (tables : List SeenTable) → IsTotal (models_of net tables)
   pub pdl : (text : List ℕ) → IsTotal (pdl_text text)
-  pub procedure : (procs : List AProc) (network : NestedNet) (name : List ℕ)
+  pub procedure : (procs : List AProc) (network : Network) (name : List ℕ)
       → IsTotal (procedure procs network name)
 
 -- what is read of an SVF text can be played in a number of clocks that is counted

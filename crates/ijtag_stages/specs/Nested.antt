@@ -10,25 +10,24 @@ use Rattle.nest_check.specs.declared.fault.NestFault.{NestFault}
 use Rattle.nest_check.specs.declared.fault.NestFault.TheVariants.{Unreached, NotNested, SelectInside}
 use Rattle.nest_check.specs.declared.fault.NestFault.TheVariants.{SelectShared, SelectDrives, SelectNoReset}
 use Rattle.nest_check.specs.declared.fault.NestFault.TheVariants.{ResetUnlisted, TooDeep, OutOfMemory}
-use Rattle.icl_signals.specs.PlainNets.{NetOf, seen_net}
 use Rattle.ijtag_stages.specs.NetNames.{cell_name, mux_name, inst_name, bit_arg}
 use Rattle.ijtag_stages.specs.Refusals.{Part, Refusal, Said, refused, refused_name}
 use Rattle.ijtag_stages.specs.declared.refusal.Stage.TheVariants.{Nest}
 
 -- how a fault is reported; want of memory is no refusal
-abbrev pub nest_refusal : NetOf → NestFault → Option Refusal
-nest_refusal of (Unreached cell) = Some (refused_name Nest (codes "Unreached") (cell_name of cell))
-nest_refusal of NotNested = Some (refused Nest (codes "NotNested"))
-nest_refusal of (SelectInside mux) = Some (refused_name Nest (codes "SelectInside") (mux_name of mux))
-nest_refusal of (SelectShared bit) =
-    Some (record { stage = Nest; kind = codes "SelectShared"; args = bit_arg of bit ∷ [] })
-nest_refusal of (SelectDrives bit inst) = Some (record
-    { stage = Nest; kind = codes "SelectDrives"; args = bit_arg of bit ∷ Said (inst_name of inst) ∷ [] })
-nest_refusal of (SelectNoReset bit) =
-    Some (record { stage = Nest; kind = codes "SelectNoReset"; args = bit_arg of bit ∷ [] })
-nest_refusal of (ResetUnlisted mux) = Some (refused_name Nest (codes "ResetUnlisted") (mux_name of mux))
-nest_refusal of (TooDeep mux) = Some (refused_name Nest (codes "TooDeep") (mux_name of mux))
-nest_refusal of OutOfMemory = None
+abbrev pub nest_refusal : Net → NestFault → Option Refusal
+nest_refusal net (Unreached cell) = Some (refused_name Nest (codes "Unreached") (cell_name net cell))
+nest_refusal net NotNested = Some (refused Nest (codes "NotNested"))
+nest_refusal net (SelectInside mux) = Some (refused_name Nest (codes "SelectInside") (mux_name net mux))
+nest_refusal net (SelectShared bit) =
+    Some (record { stage = Nest; kind = codes "SelectShared"; args = bit_arg net bit ∷ [] })
+nest_refusal net (SelectDrives bit inst) = Some (record
+    { stage = Nest; kind = codes "SelectDrives"; args = bit_arg net bit ∷ Said (inst_name net inst) ∷ [] })
+nest_refusal net (SelectNoReset bit) =
+    Some (record { stage = Nest; kind = codes "SelectNoReset"; args = bit_arg net bit ∷ [] })
+nest_refusal net (ResetUnlisted mux) = Some (refused_name Nest (codes "ResetUnlisted") (mux_name net mux))
+nest_refusal net (TooDeep mux) = Some (refused_name Nest (codes "TooDeep") (mux_name net mux))
+nest_refusal net OutOfMemory = None
 
 -- a well formed network and the lawful nested form that describes it
 pub record IsNested (net : Net) (form : Items) : Type 0 where
@@ -44,5 +43,5 @@ pub record IsUnnested (net : Net) (fault : NestFault) : Type 0 where
 unfoldable pub nested : Net → Part Items
 nested net = record {
   gives = λ form. IsNested net form;
-  refuses = λ r. (fault : NestFault) × IsUnnested net fault × (nest_refusal (seen_net net) fault ≡ Some r);
+  refuses = λ r. (fault : NestFault) × IsUnnested net fault × (nest_refusal net fault ≡ Some r);
 }

@@ -3,11 +3,11 @@
 use Rattle.std.specs.Prelude.{◌≡◌, ℕ, List, [], ◌∷◌, Option, Some, None, codes}
 use Rattle.std.specs.Option.{option_map}
 use Rattle.merge_order.specs.declared.step_fault.StepFault.{StepFault}
+use Rattle.net_graph.specs.declared.net.Net.{Net}
 use Rattle.merge_order.specs.declared.step_fault.StepFault.TheVariants.{OutOfMemory as StepMemory, Expand}
 use Rattle.merge_order.specs.declared.step_fault.StepFault.TheVariants.{Feed}
 use Rattle.merge_order.specs.Seen.{expand_fault, feed_fault}
 use Rattle.merge_order.specs.BitSteps.{AFault, Expands, Feeds, bit_steps}
-use Rattle.icl_signals.specs.PlainNets.{NetOf, seen_net}
 use Rattle.merge_order.specs.Feeding.{AFault as FeedFault, IsMergeInside, IsMergeReset, Targets}
 use Rattle.net_graph.specs.SeenSteps.{SeenStep}
 use Rattle.pdl_expand.specs.Expansion.{AFault as ExpandFault, IsNoProc, IsArgCount, IsTooManySteps, IsNoName}
@@ -18,7 +18,7 @@ use Rattle.pdl_targets.specs.Targets.{IsNotWritable, IsNotReadable, IsSelectTarg
 use Rattle.pdl_targets.specs.Targets.{IsUnapplied}
 use Rattle.ijtag_stages.specs.Elaborated.{which_name}
 use Rattle.ijtag_stages.specs.NetNames.{bit_arg}
-use Rattle.ijtag_stages.specs.Networks.{NestedNet}
+use Rattle.ijtag_stages.specs.declared.network.Network.{Network}
 use Rattle.ijtag_stages.specs.Refusals.{Part, Refusal, At, Num, Said, refused_at, refused_word}
 use Rattle.ijtag_stages.specs.declared.refusal.Stage.TheVariants.{Pdl}
 
@@ -31,28 +31,28 @@ expand_refusal (IsNoName at name) = refused_word Pdl (codes "NoName") at name
 expand_refusal (IsCallDepth at) = refused_at Pdl (codes "CallDepth") at
 
 -- how a fault of targets is reported
-abbrev pub target_refusal : NetOf → TargetFault → Refusal
-target_refusal of (IsNoTarget at) = refused_at Pdl (codes "NoTarget") at
-target_refusal of (IsNoValue at) = refused_at Pdl (codes "NoValue") at
-target_refusal of (IsValueWide at) = refused_at Pdl (codes "ValueWide") at
-target_refusal of (IsNotWritable at) = refused_at Pdl (codes "NotWritable") at
-target_refusal of (IsNotReadable at) = refused_at Pdl (codes "NotReadable") at
-target_refusal of (IsSelectTarget at bit) =
-    record { stage = Pdl; kind = codes "SelectTarget"; args = At at ∷ bit_arg of bit ∷ [] }
-target_refusal of (IsBadCount at) = refused_at Pdl (codes "BadCount") at
-target_refusal of (IsLimit at which number) =
+abbrev pub target_refusal : Net → TargetFault → Refusal
+target_refusal net (IsNoTarget at) = refused_at Pdl (codes "NoTarget") at
+target_refusal net (IsNoValue at) = refused_at Pdl (codes "NoValue") at
+target_refusal net (IsValueWide at) = refused_at Pdl (codes "ValueWide") at
+target_refusal net (IsNotWritable at) = refused_at Pdl (codes "NotWritable") at
+target_refusal net (IsNotReadable at) = refused_at Pdl (codes "NotReadable") at
+target_refusal net (IsSelectTarget at bit) =
+    record { stage = Pdl; kind = codes "SelectTarget"; args = At at ∷ bit_arg net bit ∷ [] }
+target_refusal net (IsBadCount at) = refused_at Pdl (codes "BadCount") at
+target_refusal net (IsLimit at which number) =
     record { stage = Pdl; kind = codes "Limit"; args = At at ∷ Said (which_name which) ∷ Num number ∷ [] }
-target_refusal of (IsUnapplied at) = refused_at Pdl (codes "Unapplied") at
+target_refusal net (IsUnapplied at) = refused_at Pdl (codes "Unapplied") at
 
 -- how a fault of a step is reported
-abbrev pub feed_refusal : NetOf → FeedFault → Refusal
-feed_refusal of (IsMergeInside at) = refused_at Pdl (codes "MergeInside") at
-feed_refusal of (IsMergeReset at) = refused_at Pdl (codes "MergeReset") at
-feed_refusal of (Targets fault) = target_refusal of fault
+abbrev pub feed_refusal : Net → FeedFault → Refusal
+feed_refusal net (IsMergeInside at) = refused_at Pdl (codes "MergeInside") at
+feed_refusal net (IsMergeReset at) = refused_at Pdl (codes "MergeReset") at
+feed_refusal net (Targets fault) = target_refusal net fault
 
-abbrev pub step_refusal : NetOf → AFault → Refusal
-step_refusal of (Expands fault) = expand_refusal fault
-step_refusal of (Feeds fault) = feed_refusal of fault
+abbrev pub step_refusal : Net → AFault → Refusal
+step_refusal net (Expands fault) = expand_refusal fault
+step_refusal net (Feeds fault) = feed_refusal net fault
 
 -- the fault that a refusal of the call says, unless memory ran out
 abbrev pub fault_of : StepFault → Option AFault
@@ -61,9 +61,9 @@ fault_of (Expand e) = option_map Expands (expand_fault e)
 fault_of (Feed e) = option_map Feeds (feed_fault e)
 
 -- the bit steps of a procedure that comes to its end, or its first fault
-unfoldable pub procedure : List AProc → NestedNet → List ℕ → Part (List SeenStep)
+unfoldable pub procedure : List AProc → Network → List ℕ → Part (List SeenStep)
 procedure procs network name = record {
   gives = λ steps. bit_steps procs network.net network.form name ≡ record { steps = steps; fault = None };
   refuses = λ r. (fault : AFault) × ((bit_steps procs network.net network.form name).fault ≡ Some fault)
-      × (r ≡ step_refusal (seen_net network.net) fault);
+      × (r ≡ step_refusal network.net fault);
 }

@@ -1,8 +1,6 @@
--- Refusals and networks as contracts see them: with plain lists.
+-- Refusals as contracts see them: with plain lists.
 use Rattle.std.specs.Prelude.{map}
-use Rattle.ijtag_stages.specs.Networks.{NestedNet}
 use Rattle.ijtag_stages.specs.Refusals.{Refusal, Arg, At, Num, Said, Bit}
-use Rattle.ijtag_stages.specs.declared.network.Network.{Network}
 use Rattle.ijtag_stages.specs.declared.refusal.Arg.{Arg as RustArg}
 use Rattle.ijtag_stages.specs.declared.refusal.Arg.TheVariants.{At as AtArg, Num as NumArg, Said as SaidArg}
 use Rattle.ijtag_stages.specs.declared.refusal.Arg.TheVariants.{Bit as BitArg}
@@ -17,6 +15,3 @@ seen_arg (BitArg register index) = Bit register.items index
 abbrev pub seen_refusal : RustRefusal → Refusal
 seen_refusal refusal =
     record { stage = refusal.stage; kind = refusal.kind.now; args = map seen_arg refusal.args.items }
-
-abbrev pub seen_network : Network → NestedNet
-seen_network network = record { net = network.net; form = network.form }

@@ -1,10 +1,11 @@
 -- The stage of the tables' text: what the instruments do, in this compiler's own format.
-use Rattle.std.specs.Prelude.{◌≡◌, ℕ, List, Option, Some, None, Ok, Err, codes}
+use Rattle.std.specs.Prelude.{ℕ, List, Option, Some, None, codes}
 use Rattle.table_file.specs.Tables.{SeenTable, tables}
 use Rattle.table_file.specs.declared.fault.TableFault.{TableFault}
 use Rattle.table_file.specs.declared.fault.TableFault.TheVariants.{TableSyntax, TableName, TableWidth}
 use Rattle.table_file.specs.declared.fault.TableFault.TheVariants.{TableLimit, TableTwice, OutOfMemory}
 use Rattle.ijtag_stages.specs.Refusals.{Part, Refusal, refused_at}
+use Rattle.ijtag_stages.specs.Work.{reported}
 use Rattle.ijtag_stages.specs.declared.refusal.Stage.TheVariants.{Tables}
 
 -- how a fault is reported; want of memory is no refusal
@@ -17,7 +18,4 @@ tables_fault (TableTwice at) = Some (refused_at Tables (codes "TableTwice") at)
 tables_fault OutOfMemory = None
 
 unfoldable pub tables_text : List ℕ → Part (List SeenTable)
-tables_text text = record {
-  gives = λ ts. tables text ≡ Ok ts;
-  refuses = λ r. (fault : TableFault) × (tables text ≡ Err fault) × (tables_fault fault ≡ Some r);
-}
+tables_text text = reported (tables text) tables_fault

@@ -1,6 +1,6 @@
 -- Work that is done in order: each part gives a value to the next one, or refuses, and then nothing more is
 -- done.
-use Rattle.std.specs.Prelude.{◌≡◌, ◌⊎◌}
+use Rattle.std.specs.Prelude.{◌≡◌, ◌⊎◌, Option, Some, Result, Ok, Err}
 
 -- what a part may give, and what it may refuse for
 pub record Work (R A : Type 0) : Type 1 where
@@ -14,6 +14,17 @@ give x = record { gives = λ a. a ≡ x; refuses = λ r. ⊥ }
 -- what never comes
 abbrev pub never : {R A : Type 0} → Work R A
 never = record { gives = λ a. ⊥; refuses = λ r. ⊥ }
+
+-- what is always refused
+abbrev pub refuse : {R A : Type 0} → R → Work R A
+refuse refusal = record { gives = λ a. ⊥; refuses = λ r. r ≡ refusal }
+
+-- what a function answers: its value, or what its fault is reported as; want of memory isn't reported
+abbrev pub reported : {R A E : Type 0} → Result A E → (E → Option R) → Work R A
+reported {R} {A} {E} answer report = record {
+  gives = λ a. answer ≡ Ok a;
+  refuses = λ r. (fault : E) × (answer ≡ Err fault) × (report fault ≡ Some r);
+}
 
 -- ---- one part after another
 

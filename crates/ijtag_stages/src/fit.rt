@@ -1,6 +1,5 @@
 // The tables fit the network.
 ghost use Rattle.std.specs.Prelude.{◌≡◌, Some, IfOk, All, length, map};
-ghost use Rattle.icl_signals.specs.PlainNets.{seen_net};
 ghost use Rattle.instruments.specs.Models.{IsModel};
 ghost use Rattle.instruments.specs.Seen.{seen_model};
 ghost use Rattle.net_graph.specs.Nets.{IsNet};
@@ -19,7 +18,7 @@ use std::alloc::Global;
 
 /// A refusal that tells an instrument.
 fn refusal_of_inst(alloc: Global, net: &Net, kind: &'static [u8], inst: u32) -> StageFault
-    ensures { IsToldAs (Some (refused_name Stage.Fit kind.now (inst_name (seen_net net.now) inst))) result }
+    ensures { IsToldAs (Some (refused_name Stage.Fit kind.now (inst_name net.now inst))) result }
 {
     match inst_name(alloc, net, inst) {
         Ok(name) => refused_name(alloc, Stage::Fit, kind, name.as_slice()),

@@ -1,6 +1,5 @@
 // The nested form of the network (IEEE 1687-2014, ICL: ScanMux, SelectedBy).
 ghost use Rattle.std.specs.Prelude.{◌∷◌, [], Some, codes, IfOk};
-ghost use Rattle.icl_signals.specs.PlainNets.{seen_net};
 ghost use Rattle.net_graph.specs.Nets.{IsNet};
 ghost use Rattle.ijtag_stages.specs.Follows.{Follows, IsToldAs};
 ghost use Rattle.ijtag_stages.specs.Nested.{IsNested, nested, nest_refusal};
@@ -16,7 +15,7 @@ use std::alloc::Global;
 
 /// A refusal that tells a register or a mux.
 fn refusal_of_cell(alloc: Global, net: &Net, kind: &'static [u8], cell: Point) -> StageFault
-    ensures { IsToldAs (Some (refused_name Stage.Nest kind.now (cell_name (seen_net net.now) cell))) result }
+    ensures { IsToldAs (Some (refused_name Stage.Nest kind.now (cell_name net.now cell))) result }
 {
     match cell_name(alloc, net, cell) {
         Ok(name) => refused_name(alloc, Stage::Nest, kind, name.as_slice()),
@@ -27,7 +26,7 @@ fn refusal_of_cell(alloc: Global, net: &Net, kind: &'static [u8], cell: Point) -
 /// A refusal that tells a bit.
 fn refusal_of_bit(alloc: Global, net: &Net, kind: &'static [u8], bit: BitId) -> StageFault
     ensures { IsToldAs (Some
-        (record { stage = Stage.Nest; kind = kind.now; args = bit_arg (seen_net net.now) bit ∷ [] })) result }
+        (record { stage = Stage.Nest; kind = kind.now; args = bit_arg net.now bit ∷ [] })) result }
 {
     match bit_arg(alloc, net, bit) {
         Ok(arg) => refused_one(alloc, Stage::Nest, kind, arg),
@@ -40,7 +39,7 @@ fn refusal_of_drives(alloc: Global, net: &Net, bit: BitId, inst: u32) -> StageFa
     ensures { IsToldAs (Some (record {
       stage = Stage.Nest;
       kind = codes "SelectDrives";
-      args = bit_arg (seen_net net.now) bit ∷ Said (inst_name (seen_net net.now) inst) ∷ [];
+      args = bit_arg net.now bit ∷ Said (inst_name net.now inst) ∷ [];
     })) result }
 {
     match (bit_arg(alloc, net, bit), inst_name(alloc, net, inst)) {
@@ -53,7 +52,7 @@ fn refusal_of_drives(alloc: Global, net: &Net, bit: BitId, inst: u32) -> StageFa
 
 /// How a fault of the nested form is reported: its refusal, unless memory ran out.
 pub fn refusal_of_nest(alloc: Global, net: &Net, fault: NestFault) -> StageFault
-    ensures { IsToldAs (nest_refusal (seen_net net.now) fault) result }
+    ensures { IsToldAs (nest_refusal net.now fault) result }
 {
     match fault {
         NestFault::Unreached { cell } => refusal_of_cell(alloc, net, b"Unreached", cell),

@@ -6,7 +6,6 @@ ghost use Rattle.icl_lexer.specs.Views.{seen_design};
 ghost use Rattle.ijtag_stages.specs.Follows.{Follows};
 ghost use Rattle.ijtag_stages.specs.Nested.{IsNested};
 ghost use Rattle.ijtag_stages.specs.Networks.{network_below};
-ghost use Rattle.ijtag_stages.specs.Seen.{seen_network};
 
 use crate::connect::connect_hierarchy;
 use crate::elab::elaborate_design;
@@ -36,7 +35,7 @@ pub fn read_network(
 ) -> Result<Network, StageFault>
     requires { AreWritten (seen_design design.now) }
     ensures follows { Follows
-        (network_below (seen_design design.now) top.now device.now) seen_network result }
+        (network_below (seen_design design.now) top.now device.now) (λ network. network) result }
     ensures nested { IfOk result (λ network. IsNested network.net network.form) }
 {
     let hier = elaborate_design(alloc, design, top)?;

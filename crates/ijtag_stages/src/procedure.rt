@@ -3,7 +3,6 @@ ghost use Rattle.std.specs.Prelude.{◌≡◌, ◌<◌, ◌^◌, ◌∷◌, [], 
 ghost use Rattle.std.specs.Option.{option_map};
 ghost use Rattle.merge_order.specs.BitSteps.{bit_steps};
 ghost use Rattle.merge_order.specs.Seen.{expand_fault, feed_fault};
-ghost use Rattle.icl_signals.specs.PlainNets.{seen_net};
 ghost use Rattle.ij_text.specs.Numbering.{AreDistinct};
 ghost use Rattle.net_graph.specs.Nets.{IsNet};
 ghost use Rattle.pdl_parser.specs.Grammar.{full_names};
@@ -15,7 +14,6 @@ ghost use Rattle.ijtag_stages.specs.NetNames.{bit_arg};
 ghost use Rattle.ijtag_stages.specs.Procedure.{procedure, expand_refusal, fault_of, feed_refusal};
 ghost use Rattle.ijtag_stages.specs.Procedure.{target_refusal, step_refusal};
 ghost use Rattle.ijtag_stages.specs.Refusals.{At, Num, Said};
-ghost use Rattle.ijtag_stages.specs.Seen.{seen_network};
 
 use crate::elab::which_name;
 use crate::net_names::bit_arg;
@@ -50,7 +48,7 @@ fn refusal_of_bit(alloc: Global, net: &Net, at: Place, bit: BitId) -> StageFault
     ensures { IsToldAs (Some (record {
       stage = Stage.Pdl;
       kind = codes "SelectTarget";
-      args = At at ∷ bit_arg (seen_net net.now) bit ∷ [];
+      args = At at ∷ bit_arg net.now bit ∷ [];
     })) result }
 {
     match bit_arg(alloc, net, bit) {
@@ -82,7 +80,7 @@ fn refusal_of_limit(alloc: Global, at: Place, which: Which, number: u64) -> Stag
 
 /// How a fault of targets is reported.
 fn refusal_of_target(alloc: Global, net: &Net, fault: TargetFault) -> StageFault
-    ensures { IsToldAs (option_map (target_refusal (seen_net net.now)) (target_fault fault)) result }
+    ensures { IsToldAs (option_map (target_refusal net.now) (target_fault fault)) result }
 {
     match fault {
         TargetFault::NoTarget { at } => refused_at(alloc, Stage::Pdl, b"NoTarget", at),
@@ -100,7 +98,7 @@ fn refusal_of_target(alloc: Global, net: &Net, fault: TargetFault) -> StageFault
 
 /// How a fault of a step is reported.
 fn refusal_of_feed(alloc: Global, net: &Net, fault: FeedFault) -> StageFault
-    ensures { IsToldAs (option_map (feed_refusal (seen_net net.now)) (feed_fault fault)) result }
+    ensures { IsToldAs (option_map (feed_refusal net.now) (feed_fault fault)) result }
 {
     match fault {
         FeedFault::MergeInside { at } => refused_at(alloc, Stage::Pdl, b"MergeInside", at),
@@ -112,7 +110,7 @@ fn refusal_of_feed(alloc: Global, net: &Net, fault: FeedFault) -> StageFault
 
 /// How a fault of a procedure is reported.
 fn refusal_of(alloc: Global, net: &Net, fault: StepFault) -> StageFault
-    ensures { IsToldAs (option_map (step_refusal (seen_net net.now)) (fault_of fault)) result }
+    ensures { IsToldAs (option_map (step_refusal net.now) (fault_of fault)) result }
 {
     match fault {
         StepFault::Expand(fault) => refusal_of_expand(alloc, fault),
@@ -133,7 +131,7 @@ pub fn check_procedure(
     requires net { IsNet network.now.net }
     requires distinct { AreDistinct (full_names (seen_procs procs.now)) }
     requires few { length procs.now.procs.items < 2 ^ 32 }
-    ensures follows { Follows (procedure (seen_procs procs.now) (seen_network network.now) name.now)
+    ensures follows { Follows (procedure (seen_procs procs.now) network.now name.now)
         (λ _. (bit_steps (seen_procs procs.now) network.now.net network.now.form name.now).steps) result }
     ensures ends { OnOk result
         ((bit_steps (seen_procs procs.now) network.now.net network.now.form name.now).fault ≡ None) }

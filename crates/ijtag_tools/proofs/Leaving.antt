@@ -1,22 +1,21 @@
 -- What a tighten leaves where it is done, or in part; and what its file then has.
 use Rattle.std.specs.Prelude.{IfSome, option_map}
-use Rattle.std.proofs.Common.{◌≡◌, ◌∙◌, ap, inl, inr, refl, subst, sym, ℕ, Bool, false, List, [], Option}
+use Rattle.std.proofs.Common.{◌≡◌, ◌∙◌, ap, refl, subst, ℕ, Bool, false, List, Option}
 use Rattle.std.proofs.Common.{Some, None}
 use Rattle.ij_io.specs.Bytes.{Adds, AddsPart}
 use Rattle.ij_io.specs.Files.{Files, file_at}
 use Rattle.ij_io.specs.Pieces.{HoldsPart}
-use Rattle.ij_io.proofs.Adding.{adds_none}
 use Rattle.ijtag_work.specs.Accepted.{SeenAccepted}
 use Rattle.ijtag_work.specs.Late.{IsPartOf}
 use Rattle.ijtag_work.specs.Leaves.{Leaves}
 use Rattle.ijtag_work.specs.Runs.{AllHold, IsDone, Seen}
 use Rattle.ijtag_work.specs.Task.{work}
-use Rattle.ijtag_work.proofs.Whole.{whole_is_part}
+use Rattle.ijtag_work.proofs.Ends.{all_done, file_cut, text_cut}
 use Rattle.ijtag_tools.specs.Command.{Command, Tighten, Tightens}
 use Rattle.ijtag_tools.specs.Order.{cost_line, left_of, task, tightened}
 use Rattle.ijtag_tools.specs.Planned.{IsTightened as Found, seen_cost}
 use Rattle.ijtag_tools.specs.Promises.{IfTightens, IsTightened}
-use Rattle.ijtag_tools.specs.Tight.{Cost, IsTight, cost_of}
+use Rattle.ijtag_tools.specs.Tight.{Cost, cost_of}
 use Rattle.ijtag_tools.specs.declared.planned.Tightened.{Tightened}
 
 module _ (name : List ℕ) (it : SeenAccepted) (t : Tightened) (is : Found it t) where
@@ -43,34 +42,16 @@ module _ (name : List ℕ) (it : SeenAccepted) (t : Tightened) (is : Found it t)
     -- the file is cut off
     pub file_part : HoldsPart old.files new.files name t.svf
         → new.printed ≡ old.printed → IsPartOf (tightened name it) old new
-    file_part part silent =
-        inr (record {
-          leaves = left;
-          given = given;
-          files = inr (part, tt);
-          printed = adds_none text silent;
-          in_order = inl silent;
-        })
+    file_part = file_cut (tightened name it) name t.svf text false given old new
 
     module _ (whole : file_at new.files name ≡ option_map (λ _. Some t.svf) old.files) where
       -- the line is cut off
       pub line_part : AddsPart old.printed new.printed text → IsPartOf (tightened name it) old new
-      line_part part =
-          inr (record {
-            leaves = left;
-            given = given;
-            files = inr (
-              whole_is_part old.files new.files name
-                  t.svf whole,
-              tt,
-            );
-            printed = part;
-            in_order = inr (whole, tt);
-          })
+      line_part = text_cut (tightened name it) name t.svf text false given old new whole
 
-      pub all_done : Adds old.printed new.printed text → IsDone (tightened name it) old new false
-      all_done printed =
-          record { leaves = left; given = given; files = (whole, tt); printed = printed; verdict = refl }
+      pub line_done : Adds old.printed new.printed text → IsDone (tightened name it) old new false
+      line_done printed =
+          all_done (tightened name it) name t.svf text false given old new whole false printed refl
 
 -- ---- what is done has such a file
 

@@ -2,4 +2,3 @@ mod Choosing
 mod Leaving
 mod Settling
 mod Promising
-mod Waving

@@ -28,7 +28,7 @@ use Rattle.svf_notes.specs.Before.{holds_before}
 use Rattle.svf_notes.specs.Places.{where_answer}
 use Rattle.svf_notes.specs.declared.place.BitAnswer.{BitAnswer}
 use Rattle.svf_notes.specs.declared.place.BitAnswer.TheVariants.{Same, Differs, NoScan, NoBit}
-use Rattle.ijtag_tools.specs.Command.{Command, Explains, Graphs, Listing, Lists, LooksUp, Picture, PictureAt}
+use Rattle.ijtag_tools.specs.Command.{Explains, Graphs, Listing, Lists, LooksUp, Picture, PictureAt}
 use Rattle.ijtag_tools.specs.Command.{Pictures, PicturesAt, Tightens, Wave, Waves}
 use Rattle.ijtag_tools.specs.Order.{answer_at, answered, explain, explained, explained_of, graph, graph_in}
 use Rattle.ijtag_tools.specs.Order.{graph_of, graph_text, graph_work, held, held_before, is_readable, list}

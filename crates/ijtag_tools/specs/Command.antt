@@ -1,5 +1,6 @@
 -- The words that the second program is called with.
-use Rattle.std.specs.Prelude.{ℕ, true, false, cond, List, [], ◌∷◌, Option, Some, None, map, option_map, codes}
+use Rattle.std.specs.Prelude.{ℕ, true, false, cond, List, [], ◌∷◌, ◌++◌, Option, Some, None, map, option_map}
+use Rattle.std.specs.Prelude.{codes}
 use Rattle.std.specs.Str.{bytes_eq}
 use Rattle.std.specs.String.{string_bytes}
 use Rattle.std.specs.declared.string.String.{String}
@@ -183,6 +184,12 @@ command_of (name ∷ words) =
 abbrev pub command_in : List (String Global) → Option Command
 command_in words = command_of (map string_bytes words)
 
--- the usage line
-abbrev pub usage_line : List ℕ
-usage_line = codes "usage: ijtag-tools list|explain|where|picture|tighten|wave\n"
+-- the usage text: the words of each command
+abbrev pub usage_text : List ℕ
+usage_text =
+    codes "usage: ijtag-tools list text|json ICL DEVICE TOP\n"
+    ++ codes "       ijtag-tools explain SVF ICL DEVICE TABLES TOP NEW\n"
+    ++ codes "       ijtag-tools where SVF ICL DEVICE TABLES TOP SCAN BIT\n"
+    ++ codes "       ijtag-tools picture svg|dot ICL DEVICE TOP NEW [SVF TABLES SCAN]\n"
+    ++ codes "       ijtag-tools tighten full|lean|late ICL PDL DEVICE TOP PROC NEW\n"
+    ++ codes "       ijtag-tools wave pins|state|all SVF ICL DEVICE TABLES TOP NEW [FROM COUNT]\n"

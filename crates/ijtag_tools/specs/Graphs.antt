@@ -2,7 +2,6 @@
 -- has none.
 use Rattle.std.specs.Prelude.{◌≡◌, ℕ, List, Option, Some, None}
 use Rattle.icl_lexer.specs.Values.{SeenModule}
-use Rattle.icl_signals.specs.PlainNets.{seen_net}
 use Rattle.nest_check.specs.declared.fault.NestFault.{NestFault}
 use Rattle.nest_check.specs.declared.fault.NestFault.TheVariants.{Unreached, NotNested, SelectInside}
 use Rattle.nest_check.specs.declared.fault.NestFault.TheVariants.{SelectShared, SelectDrives, SelectNoReset}
@@ -44,7 +43,7 @@ fault_cell OutOfMemory = None
 pub record IsWhy (net : Net) (why : Unnested) : Type 0 where
   pub fault : NestFault
   pub unnested : IsUnnested net fault
-  pub told : nest_refusal (seen_net net) fault ≡ Some why.refusal
+  pub told : nest_refusal net fault ≡ Some why.refusal
   pub cell : why.cell ≡ fault_cell fault
 
 -- or a nested form

@@ -6,7 +6,7 @@ use Rattle.ijtag_stages.specs.DeviceText.{device_text}
 use Rattle.ijtag_tools.specs.Graphs.{Graph, Unnested, graph_below}
 use Rattle.ijtag_stages.specs.IclText.{icl_text}
 use Rattle.ijtag_stages.specs.Refusals.{Part, refusal_text, refused, refused_number}
-use Rattle.ijtag_stages.specs.Work.{give, never, ◌>>=◌}
+use Rattle.ijtag_stages.specs.Work.{give, never, refuse, ◌>>=◌}
 use Rattle.ijtag_stages.specs.declared.refusal.Stage.TheVariants.{Explain as ExplainStage}
 use Rattle.ijtag_stages.specs.declared.refusal.Stage.TheVariants.{Where as WhereStage}
 use Rattle.ijtag_stages.specs.declared.refusal.Stage.TheVariants.{Picture as PictureStage, Wave as WaveStage}
@@ -89,10 +89,8 @@ place_line scan bit it = where_text it.network.net it.device it.models it.comman
 abbrev pub answered : ℕ → ℕ → BitAnswer → Part Bool
 answered scan bit Same = give false
 answered scan bit Differs = give true
-answered scan bit NoScan =
-    record { gives = λ _. ⊥; refuses = λ r. r ≡ refused_number WhereStage (codes "NoScan") scan }
-answered scan bit NoBit =
-    record { gives = λ _. ⊥; refuses = λ r. r ≡ refused_number WhereStage (codes "NoBit") bit }
+answered scan bit NoScan = refuse (refused_number WhereStage (codes "NoScan") scan)
+answered scan bit NoBit = refuse (refused_number WhereStage (codes "NoBit") bit)
 
 unfoldable pub answer_at : ℕ → ℕ → SeenAccepted → Part Bool
 answer_at scan bit it =
@@ -173,8 +171,7 @@ graph p = record {
 -- the same, with the active path before a scan of a play, or at its end; there must be such a scan
 abbrev pub held : ℕ → Option Holds → Part Holds
 held scan (Some holds) = give holds
-held scan None =
-    record { gives = λ _. ⊥; refuses = λ r. r ≡ refused_number PictureStage (codes "NoScan") scan }
+held scan None = refuse (refused_number PictureStage (codes "NoScan") scan)
 
 unfoldable pub held_before : ℕ → SeenAccepted → Part Holds
 held_before scan it = held scan (holds_before it.network.net it.device it.models it.commands scan)
@@ -225,8 +222,7 @@ tighten t = record {
 -- no more clocks are written than a procedure may run
 abbrev pub within_if : Bool → Window → Part Window
 within_if true w = give w
-within_if false w =
-    record { gives = λ _. ⊥; refuses = λ r. r ≡ refused_number WaveStage (codes "TooLong") w.count }
+within_if false w = refuse (refused_number WaveStage (codes "TooLong") w.count)
 
 abbrev pub within : Window → Part Window
 within w = within_if (nat_lt w.count 4000001) w
@@ -234,8 +230,7 @@ within w = within_if (nat_lt w.count 4000001) w
 -- the first clock must be one of the play's
 abbrev pub window_if : Bool → Window → ℕ → Part Window
 window_if true w clocks = within (record { from = w.from; count = min w.count (clocks - w.from) })
-window_if false w clocks =
-    record { gives = λ _. ⊥; refuses = λ r. r ≡ refused_number WaveStage (codes "BadWindow") w.from }
+window_if false w clocks = refuse (refused_number WaveStage (codes "BadWindow") w.from)
 
 abbrev pub window_in : Option Window → ℕ → Part Window
 window_in None clocks = within (record { from = 0; count = clocks })

@@ -1,5 +1,5 @@
 -- Texts that were looked at, as contracts see them.
-use Rattle.std.specs.Prelude.{◌≡◌, ◌≤◌, ℕ, Bool, true, false, List, Ok, length}
+use Rattle.std.specs.Prelude.{◌≡◌, Bool, true, false, List, Ok}
 use Rattle.svf_reader.specs.Meaning.{svf}
 use Rattle.svf_writer.specs.SeenCommands.{SeenCommand, Reset}
 use Rattle.ijtag_work.specs.Accepted.{SeenAccepted}

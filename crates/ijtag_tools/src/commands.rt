@@ -1,7 +1,7 @@
 // The table of commands.
 ghost use Rattle.std.specs.Prelude.{◌≡◌};
 ghost use Rattle.ijtag_work.specs.Runs.{AreSettled};
-ghost use Rattle.ijtag_tools.specs.Command.{Command as NamedCommand, usage_line};
+ghost use Rattle.ijtag_tools.specs.Command.{Command as NamedCommand, usage_text};
 ghost use Rattle.ijtag_tools.specs.Order.{task as task_named};
 ghost use Rattle.ijtag_tools.specs.Promises.{IsPromised};
 ghost use Rattle.ijtag_tools.specs.Words.{seen_command};
@@ -23,12 +23,17 @@ impl<'w> Command for ToolWords<'w> {
 
     ghost promise = { IsPromised };
 
-    ghost usage_line = { usage_line };
+    ghost usage_text = { usage_text };
 
     fn usage() -> &'static [u8]
-        ensures { result.now ≡ usage_line }
+        ensures { result.now ≡ usage_text }
     {
-        b"usage: ijtag-tools list|explain|where|picture|tighten|wave\n"
+        b"usage: ijtag-tools list text|json ICL DEVICE TOP\n       \
+          ijtag-tools explain SVF ICL DEVICE TABLES TOP NEW\n       \
+          ijtag-tools where SVF ICL DEVICE TABLES TOP SCAN BIT\n       \
+          ijtag-tools picture svg|dot ICL DEVICE TOP NEW [SVF TABLES SCAN]\n       \
+          ijtag-tools tighten full|lean|late ICL PDL DEVICE TOP PROC NEW\n       \
+          ijtag-tools wave pins|state|all SVF ICL DEVICE TABLES TOP NEW [FROM COUNT]\n"
     }
 
     fn works_settle()

@@ -15,7 +15,7 @@ use crate::words::ExplainWords;
 use ij_io::{Shelf, Sink, StoreFault};
 use ijtag_core::{Effect, SVF_LIMIT};
 use ijtag_stages::{Stage, StageFault, refused};
-use ijtag_work::{Accepted, Inputs, Stop, Texts, Verdict};
+use ijtag_work::{Accepted, PlayWords, Stop, Verdict};
 use std::alloc::Global;
 use svf_notes::{explained_commands_stay, explained_len, explained_len_bound, put_explained_file};
 
@@ -107,16 +107,10 @@ impl<'w> Effect for ExplainWords<'w> {
 
     ghost promise = { λ words files file it _. HoldsSameCommands files (file (seen_explain words).new) it };
 
-    fn load_texts<'a, S: Shelf>(
-        &'a self,
-        alloc: Global,
-        shelf: &mut S,
-    ) -> Result<Vec<Vec<u8>>, Stop<'a>> {
-        self.play.load(alloc, shelf)
-    }
+    type Words = PlayWords<'w>;
 
-    fn texts_in<'t>(&'t self, loaded: &'t [Vec<u8>]) -> Texts<'t> {
-        self.play.texts(loaded)
+    fn words(&self) -> &Self::Words {
+        &self.play
     }
 
     fn prints(&self) -> bool {

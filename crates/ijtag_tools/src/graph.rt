@@ -91,7 +91,7 @@ fn make_text(alloc: Global, graph: &Graph) -> Result<SureSink, OutOfMemory>
 /// graph to the file. It prints nothing.
 pub fn draw_graph<'a, S: Shelf, O: Sink>(
     alloc: Global,
-    words: &GraphWords<'a>,
+    words: &'a GraphWords<'a>,
     shelf: &mut S,
     _out: &mut O,
 ) -> Result<Verdict, Stop<'a>>

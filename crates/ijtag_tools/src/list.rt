@@ -9,7 +9,7 @@ ghost use Rattle.ijtag_tools.specs.Words.{seen_list};
 use crate::words::ListWords;
 use ij_io::{Shelf, Sink, StoreFault};
 use ijtag_core::Effect;
-use ijtag_work::{Accepted, Inputs, Stop, Texts, Verdict};
+use ijtag_work::{Accepted, NetworkWords, Stop, Verdict};
 use net_list::{ListFormat, put_list};
 use std::alloc::Global;
 
@@ -35,16 +35,10 @@ fn put_lines<O: Sink>(
 impl<'w> Effect for ListWords<'w> {
     ghost table_row = { λ words. list (seen_list words) };
 
-    fn load_texts<'a, S: Shelf>(
-        &'a self,
-        alloc: Global,
-        shelf: &mut S,
-    ) -> Result<Vec<Vec<u8>>, Stop<'a>> {
-        self.network.load(alloc, shelf)
-    }
+    type Words = NetworkWords<'w>;
 
-    fn texts_in<'t>(&'t self, loaded: &'t [Vec<u8>]) -> Texts<'t> {
-        self.network.texts(loaded)
+    fn words(&self) -> &Self::Words {
+        &self.network
     }
 
     fn prints(&self) -> bool {

@@ -12,7 +12,7 @@ use ij_bits::OutOfMemory;
 use ij_io::{Shelf, Sink, StoreFault, SureSink};
 use ijtag_core::Effect;
 use ijtag_stages::{Stage, StageFault, refused_number};
-use ijtag_work::{Accepted, Inputs, Stop, Texts, Verdict, write_file};
+use ijtag_work::{Accepted, NetworkWords, PlayWords, Stop, Verdict, write_file};
 use net_graph::Holds;
 use net_picture::{put_dot, put_svg};
 use std::alloc::Global;
@@ -88,16 +88,10 @@ fn holds_before_scan(alloc: Global, it: &Accepted, scan: u64) -> Result<Holds, S
 impl<'w> Effect for PictureWords<'w> {
     ghost table_row = { λ words. picture (seen_picture words) };
 
-    fn load_texts<'a, S: Shelf>(
-        &'a self,
-        alloc: Global,
-        shelf: &mut S,
-    ) -> Result<Vec<Vec<u8>>, Stop<'a>> {
-        self.network.load(alloc, shelf)
-    }
+    type Words = NetworkWords<'w>;
 
-    fn texts_in<'t>(&'t self, loaded: &'t [Vec<u8>]) -> Texts<'t> {
-        self.network.texts(loaded)
+    fn words(&self) -> &Self::Words {
+        &self.network
     }
 
     fn prints(&self) -> bool {
@@ -123,16 +117,10 @@ impl<'w> Effect for PictureWords<'w> {
 impl<'w> Effect for PictureAtWords<'w> {
     ghost table_row = { λ words. picture_at (seen_picture_at words) };
 
-    fn load_texts<'a, S: Shelf>(
-        &'a self,
-        alloc: Global,
-        shelf: &mut S,
-    ) -> Result<Vec<Vec<u8>>, Stop<'a>> {
-        self.play.load(alloc, shelf)
-    }
+    type Words = PlayWords<'w>;
 
-    fn texts_in<'t>(&'t self, loaded: &'t [Vec<u8>]) -> Texts<'t> {
-        self.play.texts(loaded)
+    fn words(&self) -> &Self::Words {
+        &self.play
     }
 
     fn prints(&self) -> bool {

@@ -12,7 +12,7 @@ use crate::planned::{none_takes_fewer, tightest};
 use crate::words::TightenWords;
 use ij_io::{Shelf, Sink, StoreFault, Word, put_words};
 use ijtag_core::Effect;
-use ijtag_work::{Accepted, Inputs, Stop, Texts, Verdict, write_file};
+use ijtag_work::{Accepted, ProcedureWords, Stop, Verdict, write_file};
 use std::alloc::Global;
 
 /// Prints what commands take, what those of a compile take, and the clocks that any take at least.
@@ -49,16 +49,10 @@ impl<'w> Effect for TightenWords<'w> {
 
     ghost promise = { λ _ _ _ it _. NoneTakesFewer it };
 
-    fn load_texts<'a, S: Shelf>(
-        &'a self,
-        alloc: Global,
-        shelf: &mut S,
-    ) -> Result<Vec<Vec<u8>>, Stop<'a>> {
-        self.procedure.load(alloc, shelf)
-    }
+    type Words = ProcedureWords<'w>;
 
-    fn texts_in<'t>(&'t self, loaded: &'t [Vec<u8>]) -> Texts<'t> {
-        self.procedure.texts(loaded)
+    fn words(&self) -> &Self::Words {
+        &self.procedure
     }
 
     fn prints(&self) -> bool {

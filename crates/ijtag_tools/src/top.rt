@@ -1,7 +1,7 @@
 // The top call.
 ghost use Rattle.std.specs.Prelude.{◌≡◌, IfSome};
 ghost use Rattle.ij_io.specs.Files.{file_at};
-ghost use Rattle.ijtag_tools.specs.Command.{command_in, usage_line};
+ghost use Rattle.ijtag_tools.specs.Command.{command_in, usage_text};
 ghost use Rattle.ijtag_tools.specs.Order.{task};
 ghost use Rattle.ijtag_tools.specs.Promises.{IfExplains, IfTightens, IsBounded, IsExplained, IsTightened};
 ghost use Rattle.ijtag_work.specs.Ends.{IsRun, views, world};
@@ -65,7 +65,7 @@ pub fn ijtag_tools<S: Shelf, O: Sink, E: Sink>(
     // How it ends, for which reasons, what it prints then, and what changes: see `specs/Ends` of
     // `ijtag_work`.
     ensures run { IsRun (views S.files S.load_faults S.store_faults O.taken O.handed
-        O.faults E.taken E.faults) task usage_line
+        O.faults E.taken E.faults) task usage_text
         (command_in words.now.items) (world shelf.old out.old err.old)
         (world shelf.new out.new err.new) result }
 {

@@ -3,7 +3,6 @@ ghost use Rattle.std.specs.Prelude.{◌≡◌, Some, IfOk};
 ghost use Rattle.std.specs.Option.{option_map};
 ghost use Rattle.icl_frames.specs.Written.{AreWritten};
 ghost use Rattle.icl_lexer.specs.Views.{seen_design};
-ghost use Rattle.icl_signals.specs.PlainNets.{seen_net};
 ghost use Rattle.net_graph.specs.Nets.{IsNet};
 ghost use Rattle.ijtag_stages.specs.Follows.{Follows};
 ghost use Rattle.ijtag_tools.specs.Graphs.{form_or_why, fault_cell, graph_below};
@@ -56,7 +55,7 @@ fn cell_of(fault: NestFault) -> Option<Point>
 /// How a fault is reported, and what it names.
 fn unnested_by(alloc: Global, net: &Net, fault: NestFault) -> Result<Unnested, OutOfMemory>
     ensures told { IfOk result
-        (λ why. nest_refusal (seen_net net.now) fault ≡ Some (seen_refusal why.refusal)) }
+        (λ why. nest_refusal net.now fault ≡ Some (seen_refusal why.refusal)) }
     ensures cell { IfOk result (λ why. why.cell ≡ fault_cell fault) }
 {
     let cell = cell_of(fault);

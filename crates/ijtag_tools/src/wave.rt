@@ -16,7 +16,7 @@ use crate::words::WaveWords;
 use ij_io::{Shelf, Sink, StoreFault};
 use ijtag_core::Effect;
 use ijtag_stages::{Stage, StageFault, refused_number};
-use ijtag_work::{Accepted, Inputs, Stop, Texts, Verdict};
+use ijtag_work::{Accepted, PlayWords, Stop, Verdict};
 use net_wave::{WaveKind, Window, put_wave_file};
 use std::alloc::Global;
 
@@ -117,16 +117,10 @@ fn write_waves<S: Shelf>(
 impl<'w> Effect for WaveWords<'w> {
     ghost table_row = { λ words. wave (seen_wave words) };
 
-    fn load_texts<'a, S: Shelf>(
-        &'a self,
-        alloc: Global,
-        shelf: &mut S,
-    ) -> Result<Vec<Vec<u8>>, Stop<'a>> {
-        self.play.load(alloc, shelf)
-    }
+    type Words = PlayWords<'w>;
 
-    fn texts_in<'t>(&'t self, loaded: &'t [Vec<u8>]) -> Texts<'t> {
-        self.play.texts(loaded)
+    fn words(&self) -> &Self::Words {
+        &self.play
     }
 
     fn prints(&self) -> bool {

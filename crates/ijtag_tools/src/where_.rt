@@ -10,7 +10,7 @@ use crate::words::WhereWords;
 use ij_io::{Shelf, Sink, SureSink};
 use ijtag_core::Effect;
 use ijtag_stages::{Stage, StageFault, refused_number};
-use ijtag_work::{Accepted, Inputs, Stop, Texts, Verdict};
+use ijtag_work::{Accepted, PlayWords, Stop, Verdict};
 use std::alloc::Global;
 use svf_notes::{BitAnswer, find_bit};
 
@@ -49,16 +49,10 @@ fn locate_bit(alloc: Global, it: &Accepted, scan: u64, bit: u64) -> Result<Place
 impl<'w> Effect for WhereWords<'w> {
     ghost table_row = { λ words. look_up (seen_where words) };
 
-    fn load_texts<'a, S: Shelf>(
-        &'a self,
-        alloc: Global,
-        shelf: &mut S,
-    ) -> Result<Vec<Vec<u8>>, Stop<'a>> {
-        self.play.load(alloc, shelf)
-    }
+    type Words = PlayWords<'w>;
 
-    fn texts_in<'t>(&'t self, loaded: &'t [Vec<u8>]) -> Texts<'t> {
-        self.play.texts(loaded)
+    fn words(&self) -> &Self::Words {
+        &self.play
     }
 
     fn prints(&self) -> bool {

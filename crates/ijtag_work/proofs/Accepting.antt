@@ -11,7 +11,8 @@ use Rattle.ijtag_stages.specs.DeviceText.{device_text}
 use Rattle.ijtag_stages.specs.Fitted.{models_of}
 use Rattle.ijtag_stages.specs.Follows.{IsFault}
 use Rattle.ijtag_stages.specs.IclText.{icl_text}
-use Rattle.ijtag_stages.specs.Networks.{NestedNet, network_below}
+use Rattle.ijtag_stages.specs.Networks.{network_below}
+use Rattle.ijtag_stages.specs.declared.network.Network.{Network}
 use Rattle.ijtag_stages.specs.Refusals.{Part, Refusal}
 use Rattle.ijtag_stages.specs.Seen.{seen_refusal}
 use Rattle.ijtag_stages.specs.SvfText.{svf_text}
@@ -57,7 +58,7 @@ module _ (t : Texts) (modules : List SeenModule) (icl : (icl_text t.icl).gives m
         fault_of (network_below modules t.top device) (accepted t) fault
         (λ r own. inr (modules, icl, inr (device, dev, inr (tables, tab, inr (commands, svf, inl own))))) is
 
-    module _ (network : NestedNet) (net : (network_below modules t.top device).gives network) where
+    module _ (network : Network) (net : (network_below modules t.top device).gives network) where
       pub fit_refused : (fault : StageFault)
           → IsFault (if_given tables (models_of network.net)) fault → IsFault (accepted t) fault
       unfolding accepted

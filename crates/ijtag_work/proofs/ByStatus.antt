@@ -165,18 +165,18 @@ module _ {S O E C : Type 0} (v : Views S O E) (task : C
   no_command None (Stopped stop) ends says none = usage_stop stop ends.0 says
   no_command (Some command) end ends says none = absurd (cc)
 
-  usage_line_of : (stop : Stop) → status_of stop ≡ UsageStatus
+  usage_text_of : (stop : Stop) → status_of stop ≡ UsageStatus
       → IsSaid v usage old new stop → IsSaid v usage old new Usage
-  usage_line_of Usage e said = said
-  usage_line_of (Refuses r) e said = absurd (cc)
-  usage_line_of (ReadFault name) e said = absurd (cc)
-  usage_line_of (WriteFault name) e said = absurd (cc)
-  usage_line_of OutputFault e said = absurd (cc)
-  usage_line_of NoMemory e said = absurd (cc)
+  usage_text_of Usage e said = said
+  usage_text_of (Refuses r) e said = absurd (cc)
+  usage_text_of (ReadFault name) e said = absurd (cc)
+  usage_text_of (WriteFault name) e said = absurd (cc)
+  usage_text_of OutputFault e said = absurd (cc)
+  usage_text_of NoMemory e said = absurd (cc)
 
   says_usage : (end : End) → Told end → result ≡ UsageStatus → IsSaid v usage old new Usage
   says_usage (Done d) says is = absurd (usage_done d (sym is ∙ says.0))
-  says_usage (Stopped stop) says is = usage_line_of stop (of_status UsageStatus is usage_apart stop says)
+  says_usage (Stopped stop) says is = usage_text_of stop (of_status UsageStatus is usage_apart stop says)
       (line_of stop says (had_memory UsageStatus is usage_apart))
 
   refused_done : (differs : Bool) → Refused ≡ status_if differs → ⊥

@@ -15,7 +15,8 @@ use Rattle.ijtag_stages.specs.DeviceText.{device_text}
 use Rattle.ijtag_stages.specs.Fitted.{models_of}
 use Rattle.ijtag_stages.specs.IclText.{icl_text}
 use Rattle.ijtag_stages.specs.Laws.{StagesAreDecided}
-use Rattle.ijtag_stages.specs.Networks.{NestedNet, network_below}
+use Rattle.ijtag_stages.specs.Networks.{network_below}
+use Rattle.ijtag_stages.specs.declared.network.Network.{Network}
 use Rattle.ijtag_stages.specs.PdlText.{pdl_text}
 use Rattle.ijtag_stages.specs.SvfText.{svf_text}
 use Rattle.ijtag_stages.specs.TablesText.{tables_text}
@@ -173,7 +174,7 @@ given_decided None part is = give_decided None
 given_decided (Some t) part is = in_turn_decided (part t) _ (is t) (λ a. give_decided (Some a))
 
 module _ (stages : StagesAreDecided) (texts_one : TextsAreOne) (places_one : PlacesAreOne) where
-  followed_decided : (network : NestedNet) (name pdl : List ℕ) → IsDecided (followed network name pdl)
+  followed_decided : (network : Network) (name pdl : List ℕ) → IsDecided (followed network name pdl)
   unfolding followed
   followed_decided network name pdl =
       in_turn_decided (pdl_text pdl) _ (stages.pdl pdl) (λ procs. stages.procedure procs network name)

@@ -1,26 +1,16 @@
 -- What a part of a command's work does, the whole of it does.
-use Rattle.std.proofs.Common.{◌≡◌, inl, inr, ℕ, Bool, Option, List, subst}
+use Rattle.std.proofs.Common.{◌≡◌, inl, inr, ℕ, Option, List, subst}
 use Rattle.ij_io.specs.Causes.{Rose}
 use Rattle.ij_io.specs.Files.{Files}
 use Rattle.ijtag_work.specs.Task.{Task, work}
 use Rattle.ijtag_work.specs.Late.{IsLateStop, IsPartOf}
 use Rattle.ijtag_work.specs.Leaves.{Leaves}
-use Rattle.ijtag_work.specs.Runs.{Seen, IsDone, IsPartDone, Counts, IsStop}
+use Rattle.ijtag_work.specs.Runs.{Seen, IsPartDone, Counts, IsStop}
 use Rattle.ijtag_work.specs.Stops.{Stop, Usage, Refuses, ReadFault, WriteFault, OutputFault, NoMemory}
 use Rattle.ijtag_stages.specs.Refusals.{Part, Refusal}
 
 module _ (files : Option Files) (task : Task) (part : Part Leaves) (lift : (leaves : Leaves)
     → part.gives leaves → (work files task).gives leaves) (old new : Seen) where
-  pub done_in : (differs : Bool) → IsDone part old new differs → IsDone (work files task) old new differs
-  done_in differs d =
-      record {
-        leaves = d.leaves;
-        given = lift d.leaves d.given;
-        files = d.files;
-        printed = d.printed;
-        verdict = d.verdict;
-      }
-
   pub begun_in : IsPartOf part old new → IsPartDone files task old new
   begun_in either = elim either [
     | inl same ↦ inl same

@@ -1,13 +1,12 @@
 -- What a run does after the texts that were accepted.
 use Rattle.std.specs.Prelude.{option_map}
-use Rattle.std.proofs.Common.{◌≡◌, ◌≤◌, inl, inr, refl, ℕ, Bool, Some, List, [], ◌∷◌, length, arith}
+use Rattle.std.proofs.Common.{◌≡◌, ◌≤◌, refl, ℕ, Bool, Some, List, [], ◌∷◌, length, arith}
 use Rattle.retargeter.specs.Files.{HoldsPart}
 use Rattle.bench_report.specs.Report.{named_report}
 use Rattle.headline.specs.Retargeting.{PlannedStep, script_of}
 use Rattle.headline.specs.Script.{script_commands}
 use Rattle.ij_io.specs.Bytes.{Adds, AddsPart}
 use Rattle.ij_io.specs.Files.{file_at}
-use Rattle.ij_io.proofs.Adding.{adds_none}
 use Rattle.net_graph.specs.Resets.{start_holds}
 use Rattle.run_report.specs.Places.{places, read_at}
 use Rattle.retargeter.specs.Plans.{AreStepsOf}
@@ -20,6 +19,7 @@ use Rattle.ijtag_work.specs.Order.{any_differs, commands_of, ran, reads_differ, 
 use Rattle.ijtag_work.specs.Order.{run_report, written_text}
 use Rattle.ijtag_work.specs.Late.{IsPartOf}
 use Rattle.ijtag_work.specs.Runs.{Seen, IsDone}
+use Rattle.ijtag_work.proofs.Ends.{all_done, file_cut, text_cut}
 use Rattle.ijtag_work.proofs.Whole.{whole_is_part}
 
 any_alike : {A B : Type 0} (xs : List A) (ys : List B)
@@ -77,44 +77,25 @@ module _ (name : List ℕ) (it : SeenAccepted) (bytes : List ℕ) (written : (wr
       -- the file is cut off
       pub write_part : HoldsPart old.files new.files name bytes
           → new.printed ≡ old.printed → IsPartOf (run_of name it) old new
-      write_part part silent =
-          inr (record {
-            leaves = ran name bytes (report found.0) (run_differs it found.0);
-            given = given found.0 found.1;
-            files = inr (part, tt);
-            printed = adds_none (report found.0) silent;
-            in_order = inl silent;
-          })
+      write_part =
+          file_cut (run_of name it) name bytes (report found.0) (run_differs it found.0)
+          (given found.0 found.1) old new
 
       module _ (whole : file_at new.files name ≡ option_map (λ _. Some bytes) old.files) where
-        all_held : HoldsPart old.files new.files name bytes
-        all_held = whole_is_part old.files new.files name bytes whole
-
         -- the file is whole, and nothing is printed
         pub silent_part : new.printed ≡ old.printed → IsPartOf (run_of name it) old new
-        silent_part silent = write_part all_held silent
+        silent_part silent = write_part (whole_is_part old.files new.files name bytes whole) silent
 
         module _ (commands : List SeenCommand) (is : (commands_of bytes).gives commands) where
           -- the report is cut off
           pub print_part : AddsPart old.printed new.printed (report commands)
               → IsPartOf (run_of name it) old new
-          print_part part =
-              inr (record {
-                leaves = ran name bytes (report commands) (run_differs it commands);
-                given =
-                    given commands is;
-                files = inr (all_held, tt);
-                printed = part;
-                in_order = inr (whole, tt);
-              })
+          print_part =
+              text_cut (run_of name it) name bytes (report commands) (run_differs it commands)
+              (given commands is) old new whole
 
           pub ran_done : (differs : Bool) → Adds old.printed new.printed (report commands)
               → differs ≡ run_differs it commands → IsDone (run_of name it) old new differs
-          ran_done differs printed verdict =
-              record {
-                leaves = ran name bytes (report commands) (run_differs it commands);
-                given = given commands is;
-                files = (whole, tt);
-                printed = printed;
-                verdict = verdict;
-              }
+          ran_done =
+              all_done (run_of name it) name bytes (report commands) (run_differs it commands)
+              (given commands is) old new whole

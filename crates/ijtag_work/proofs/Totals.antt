@@ -21,7 +21,8 @@ use Rattle.ijtag_stages.specs.Fitted.{models_of}
 use Rattle.ijtag_stages.specs.IclText.{icl_text}
 use Rattle.ijtag_stages.specs.Laws.{StagesAreTotal}
 use Rattle.ijtag_stages.specs.Nested.{IsNested}
-use Rattle.ijtag_stages.specs.Networks.{NestedNet, network_below}
+use Rattle.ijtag_stages.specs.Networks.{network_below}
+use Rattle.ijtag_stages.specs.declared.network.Network.{Network}
 use Rattle.ijtag_stages.specs.PdlText.{pdl_text}
 use Rattle.ijtag_stages.specs.Procedure.{procedure}
 use Rattle.ijtag_stages.specs.Refusals.{Part}
@@ -121,7 +122,7 @@ if_total None part is = give_total None
 if_total (Some t) part is = in_turn_total (part t) _ (is t) (λ a given. give_total (Some a))
 
 -- the bit steps of a procedure that was followed
-steps_of_procedure : (network : NestedNet) (name pdl : List ℕ) (o : Option (List ℕ))
+steps_of_procedure : (network : Network) (name pdl : List ℕ) (o : Option (List ℕ))
     (steps : Option (List SeenStep)) → o ≡ Some pdl → (if_given o (followed network name)).gives steps
     → (procs : List AProc) × (listed steps ≡ (bit_steps procs network.net network.form name).steps)
 unfolding if_given followed procedure
@@ -244,7 +245,7 @@ module _ (stages : StagesAreTotal) (right : PlansAreRight) (valid : BitStepsAreO
     (few_steps : BitStepsAreFew) (few_rounds : BitRoundsAreFew) (few_cycles : BitCyclesAreFew) where
   -- ---- what texts are accepted as
 
-  followed_total : (network : NestedNet) (name pdl : List ℕ) → IsTotal (followed network name pdl)
+  followed_total : (network : Network) (name pdl : List ℕ) → IsTotal (followed network name pdl)
   unfolding followed
   followed_total network name pdl =
       in_turn_total (pdl_text pdl) _ (stages.pdl pdl) (λ procs given. stages.procedure procs network name)

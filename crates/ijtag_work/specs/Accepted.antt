@@ -9,7 +9,8 @@ use Rattle.svf_writer.specs.SeenCommands.{SeenCommand}
 use Rattle.ijtag_stages.specs.DeviceText.{device_text}
 use Rattle.ijtag_stages.specs.Fitted.{models_of}
 use Rattle.ijtag_stages.specs.IclText.{icl_text}
-use Rattle.ijtag_stages.specs.Networks.{NestedNet, network_below}
+use Rattle.ijtag_stages.specs.Networks.{network_below}
+use Rattle.ijtag_stages.specs.declared.network.Network.{Network}
 use Rattle.ijtag_stages.specs.PdlText.{pdl_text}
 use Rattle.ijtag_stages.specs.Procedure.{procedure}
 use Rattle.ijtag_stages.specs.Refusals.{Part}
@@ -31,7 +32,7 @@ pub record Texts : Type 0 where
 -- what they are accepted as: without tables no models, without SVF no text of it and no commands, without PDL
 -- no steps
 pub record SeenAccepted : Type 0 where
-  pub network : NestedNet
+  pub network : Network
   pub device : Device
   pub models : List SeenModel
   pub svf : List ℕ
@@ -50,7 +51,7 @@ abbrev pub listed : {A : Type 0} → Option (List A) → List A
 listed items = unwrap_or items []
 
 -- the bit steps of the procedure of this name, up to its end
-unfoldable pub followed : NestedNet → List ℕ → List ℕ → Part (List SeenStep)
+unfoldable pub followed : Network → List ℕ → List ℕ → Part (List SeenStep)
 followed network name pdl = do
   procs ← pdl_text pdl
   procedure procs network name

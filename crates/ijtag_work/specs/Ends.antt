@@ -114,7 +114,7 @@ pub record OnlyItsOwn {S O E C : Type 0} (v : Views S O E) (task : C
   pub loads : OnlyTheseRise (loads_in task words) (v.load_faults old.shelf) (v.load_faults new.shelf)
   pub stores : OnlyTheseRise (writes_in task words) (v.store_faults old.shelf) (v.store_faults new.shelf)
 
--- ---- the run of a program with a table of commands and a usage line: the words are one of its commands, or
+-- ---- the run of a program with a table of commands and a usage text: the words are one of its commands, or
 -- none
 
 pub record IsRun {S O E C : Type 0} (v : Views S O E) (task : C

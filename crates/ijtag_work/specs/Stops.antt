@@ -35,7 +35,7 @@ status_of NoMemory = MemoryStatus
 abbrev pub named_line : List ℕ → List ℕ → List ℕ
 named_line text name = concat (text ∷ name ∷ codes "\n" ∷ [])
 
--- the line that reports a stop, of a program with this usage line
+-- the text that reports a stop, of a program with this usage text: one line, but for the usage
 unfoldable pub stop_text : List ℕ → Stop → List ℕ
 stop_text usage Usage = usage
 stop_text usage (Refuses refusal) = refusal_text refusal
@@ -44,9 +44,9 @@ stop_text usage (WriteFault name) = named_line (codes "write fault ") name
 stop_text usage OutputFault = codes "write fault output\n"
 stop_text usage NoMemory = codes "out of memory\n"
 
--- the usage line of `ijtag`
-abbrev pub usage_line : List ℕ
-usage_line = codes "usage: ijtag compile|play|run|direct|make|migrate|audit|muxtest\n"
+-- the usage text of `ijtag`
+abbrev pub usage_text : List ℕ
+usage_text = codes "usage: ijtag compile|play|run|direct|make|migrate|audit|muxtest\n"
 
 -- a stop that comes only before something is written but the files that a command writes first
 abbrev pub IsEarly : Stop → Type 0

@@ -17,7 +17,6 @@ use Rattle.svf_reader.specs.Meaning.{svf}
 use Rattle.svf_writer.specs.Fits.{AreFit}
 use Rattle.svf_writer.specs.SeenCommands.{SeenCommand}
 use Rattle.ijtag_stages.specs.Nested.{IsNested}
-use Rattle.ijtag_stages.specs.Seen.{seen_network}
 use Rattle.ijtag_stages.specs.declared.network.Network.{Network}
 use Rattle.ijtag_work.specs.Accepted.{SeenAccepted, Texts, listed}
 use Rattle.ijtag_work.specs.Inputs.{Inputs, OfAudit, OfDirect, OfNetwork, OfPlay, OfProcedure}
@@ -58,7 +57,7 @@ steps_of network p = (bit_steps (seen_procs p.procs) network.net network.form p.
 
 abbrev pub seen_accepted : Accepted → SeenAccepted
 seen_accepted it = record {
-  network = seen_network it.network;
+  network = it.network;
   device = it.device;
   models = listed (option_map (λ ms. map seen_model ms) it.models);
   svf = listed (option_map (λ text. text.now) it.svf);

@@ -10,7 +10,6 @@ ghost use Rattle.table_file.specs.Answers.{seen_tables};
 ghost use Rattle.ijtag_stages.specs.Fitted.{models_of};
 ghost use Rattle.ijtag_stages.specs.Follows.{Follows};
 ghost use Rattle.ijtag_stages.specs.SvfText.{svf_text};
-ghost use Rattle.ijtag_stages.specs.Seen.{seen_network};
 ghost use Rattle.ijtag_stages.specs.TablesText.{tables_text};
 ghost use Rattle.ijtag_work.specs.Accepted.{accepted, followed, if_given, listed};
 ghost use Rattle.ijtag_work.specs.Using.{ArePlayable, AreShortTexts, CanUse, ComesToItsEnd, IsShort};
@@ -206,7 +205,7 @@ fn fit_given(
 fn follow(alloc: Global, network: &Network, pdl: &[u8], name: &str) -> Result<Procedure, StageFault>
     requires net { IsNet network.now.net }
     requires short { length pdl.now ≤ 134217728 }
-    ensures follows { Follows (followed (seen_network network.now) name.now pdl.now)
+    ensures follows { Follows (followed network.now name.now pdl.now)
         (steps_of network.now) result }
     ensures ends { IfOk result (ComesToItsEnd network.now) }
 {
@@ -227,7 +226,7 @@ fn follow_given(
     requires net { IsNet network.now.net }
     requires short { IfSome pdl (λ t. length t.now ≤ 134217728) }
     ensures follows { Follows (if_given (option_map (λ t. t.now) pdl.entry)
-        (followed (seen_network network.now) name.now)) (option_map (steps_of network.now)) result }
+        (followed network.now name.now)) (option_map (steps_of network.now)) result }
     ensures given { IfOk result (λ procedure. there procedure ≡ there pdl.entry) }
     ensures ends { IfOk result (λ procedure. IfSome procedure (ComesToItsEnd network.now)) }
 {

@@ -17,13 +17,13 @@ use ij_io::Shelf;
 use std::alloc::Global;
 
 /// Words that name the files of a command's texts, the top module, and the procedure where there is one.
-pub trait Inputs<'a> {
+pub trait Inputs {
     /// The words without where they lie in memory.
     ghost named: { Self → NamedInputs };
 
     /// Loads the files in their order, each once, and stops at the first that can't be loaded or is too long.
     /// No file changes, and the counts of no other names.
-    fn load<S: Shelf>(&self, alloc: Global, shelf: &mut S) -> Result<Vec<Vec<u8>>, Stop<'a>>
+    fn load<'a, S: Shelf>(&'a self, alloc: Global, shelf: &mut S) -> Result<Vec<Vec<u8>>, Stop<'a>>
         ensures follows { LoadsAndFollows (S.files shelf.old) (loads_of (named self.now))
             (S.load_faults shelf.old) (S.load_faults shelf.new)
             (loaded (S.files shelf.old) (loads_of (named self.now)))
@@ -54,10 +54,14 @@ pub struct NetworkWords<'a> {
     pub top: &'a str,
 }
 
-impl<'a> Inputs<'a> for NetworkWords<'a> {
+impl<'w> Inputs for NetworkWords<'w> {
     ghost named = { λ words. OfNetwork (seen_network words) };
 
-    fn load<S: Shelf>(&self, alloc: Global, shelf: &mut S) -> Result<Vec<Vec<u8>>, Stop<'a>> {
+    fn load<'a, S: Shelf>(
+        &'a self,
+        alloc: Global,
+        shelf: &mut S,
+    ) -> Result<Vec<Vec<u8>>, Stop<'a>> {
         let loads = [Load::Source(self.icl), Load::Source(self.device)];
         load_files(alloc, &loads, shelf)
     }
@@ -89,10 +93,14 @@ pub struct ProcedureWords<'a> {
     pub name: &'a str,
 }
 
-impl<'a> Inputs<'a> for ProcedureWords<'a> {
+impl<'w> Inputs for ProcedureWords<'w> {
     ghost named = { λ words. OfProcedure (seen_procedure words) };
 
-    fn load<S: Shelf>(&self, alloc: Global, shelf: &mut S) -> Result<Vec<Vec<u8>>, Stop<'a>> {
+    fn load<'a, S: Shelf>(
+        &'a self,
+        alloc: Global,
+        shelf: &mut S,
+    ) -> Result<Vec<Vec<u8>>, Stop<'a>> {
         let loads = [
             Load::Source(self.network.icl),
             Load::Source(self.pdl),
@@ -126,10 +134,14 @@ pub struct DirectWords<'a> {
     pub tables: &'a str,
 }
 
-impl<'a> Inputs<'a> for DirectWords<'a> {
+impl<'w> Inputs for DirectWords<'w> {
     ghost named = { λ words. OfDirect (seen_direct words) };
 
-    fn load<S: Shelf>(&self, alloc: Global, shelf: &mut S) -> Result<Vec<Vec<u8>>, Stop<'a>> {
+    fn load<'a, S: Shelf>(
+        &'a self,
+        alloc: Global,
+        shelf: &mut S,
+    ) -> Result<Vec<Vec<u8>>, Stop<'a>> {
         let loads = [
             Load::Source(self.procedure.network.icl),
             Load::Source(self.procedure.pdl),
@@ -166,10 +178,14 @@ pub struct PlayWords<'a> {
     pub tables: &'a str,
 }
 
-impl<'a> Inputs<'a> for PlayWords<'a> {
+impl<'w> Inputs for PlayWords<'w> {
     ghost named = { λ words. OfPlay (seen_play words) };
 
-    fn load<S: Shelf>(&self, alloc: Global, shelf: &mut S) -> Result<Vec<Vec<u8>>, Stop<'a>> {
+    fn load<'a, S: Shelf>(
+        &'a self,
+        alloc: Global,
+        shelf: &mut S,
+    ) -> Result<Vec<Vec<u8>>, Stop<'a>> {
         let loads = [
             Load::Svf(self.svf),
             Load::Source(self.network.icl),
@@ -204,10 +220,14 @@ pub struct AuditWords<'a> {
     pub procedure: ProcedureWords<'a>,
 }
 
-impl<'a> Inputs<'a> for AuditWords<'a> {
+impl<'w> Inputs for AuditWords<'w> {
     ghost named = { λ words. OfAudit (seen_audit words) };
 
-    fn load<S: Shelf>(&self, alloc: Global, shelf: &mut S) -> Result<Vec<Vec<u8>>, Stop<'a>> {
+    fn load<'a, S: Shelf>(
+        &'a self,
+        alloc: Global,
+        shelf: &mut S,
+    ) -> Result<Vec<Vec<u8>>, Stop<'a>> {
         let loads = [
             Load::Svf(self.svf),
             Load::Source(self.procedure.network.icl),

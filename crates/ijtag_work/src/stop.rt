@@ -72,6 +72,16 @@ impl<'a> Stop<'a> {
         }
     }
 
+    /// Why a run stops at a write of a made design's file.
+    pub fn of_made(fault: StoreFault, name: MadeName<'a>) -> Stop<'a>
+        ensures { seen_stop result ≡ file_stop (seen_made_name name.entry) fault }
+    {
+        match fault {
+            StoreFault::Failed => Stop::WriteMade(name),
+            StoreFault::OutOfMemory => Stop::OutOfMemory,
+        }
+    }
+
     /// Why a run stops at a write of the output.
     pub fn of_output(fault: StoreFault) -> Stop<'a>
         ensures stop { seen_stop result ≡ output_stop fault }
@@ -136,7 +146,7 @@ fn put_write_made<K: Sink>(name: &MadeName<'_>, k: &mut K) -> Result<(), StoreFa
     )
 }
 
-/// Prints the line of a stop, of a program with this usage line.
+/// Prints the text of a stop, of a program with this usage text.
 #[tactic(auto, unfolding(crate::specs::Stops::stop_text))]
 fn put_stop<K: Sink>(usage: &[u8], stop: &Stop<'_>, k: &mut K) -> Result<(), StoreFault>
     ensures whole { OnOk result
@@ -156,7 +166,7 @@ fn put_stop<K: Sink>(usage: &[u8], stop: &Stop<'_>, k: &mut K) -> Result<(), Sto
     }
 }
 
-/// Prints the line of a stop on the error stream, of a program with this usage line, and gives its status. A
+/// Prints the text of a stop on the error stream, of a program with this usage text, and gives its status. A
 /// fault of the stream changes no status, and want of memory there is want of memory of the run.
 pub fn report<E: Sink>(usage: &[u8], stop: &Stop<'_>, err: &mut E) -> Status
     ensures status { IsOrMemory result (status_of (seen_stop stop.now)) }

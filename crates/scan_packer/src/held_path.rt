@@ -13,12 +13,13 @@ ghost use Rattle.scan_packer.specs.Flushed.{HasFlushRoom, flush_mask, flush_tdi,
 ghost use Rattle.scan_packer.specs.HeldPaths.{HasPathRoom, IsHeldPath};
 ghost use Rattle.scan_packer.specs.Packed.{expected, marked};
 ghost use Rattle.scan_packer.specs.Packing.{CanScan, HasBitRoom};
+ghost use Rattle.scan_packer.specs.Started.{AreStarts};
 
-use crate::fill::fill_held;
+use crate::fill::{fill_held, note_starts};
 use crate::flush::{fill_compared, fill_expected, fill_marked, scan_bits};
 use crate::packing::fill_reads;
 use crate::put::put_writes;
-use ij_bits::{Bits, OutOfMemory};
+use ij_bits::{Bits, List, OutOfMemory};
 use net_graph::{Holds, Net, ReadBit, WriteBit};
 use net_tree::{Route, ScanPlan, Tree};
 use std::alloc::Global;
@@ -29,6 +30,9 @@ use std::mem::swap;
 pub struct HeldPath {
     /// The registers of the active path.
     pub route: Route,
+    /// Where the first bit of each of them is, counted from scan-out, by the register's number. What is there
+    /// of other registers is free.
+    pub starts: List<u32>,
     /// What they hold, position 0 (nearest TDO) first.
     pub bits: Bits,
     /// How many scan bits the network has.
@@ -44,6 +48,7 @@ impl HeldPath {
         let scan_bits = scan_bits(net);
         Ok(HeldPath {
             route: Route::new(alloc, net)?,
+            starts: List::from(vec![in alloc; 0u32; net.regs.len()]?),
             bits: Bits::with_room(alloc, scan_bits)?,
             scan_bits,
         })
@@ -74,13 +79,16 @@ impl HeldPath {
         ensures room { HasPathRoom net.now self.new }
     {
         tree.walk(net, holds, &mut self.route);
-        fill_held(&mut self.bits, net, holds, self.route.regs().as_slice());
+        let regs = self.route.regs().as_slice();
+        note_starts(&mut self.starts, net, regs);
+        fill_held(&mut self.bits, net, holds, regs);
     }
 
     /// Leaves here what the same active path holds after a scan, which is what the scan shifted in. The list
     /// then has what the path held before. Takes no memory.
     pub fn take_bits(&mut self, _net: &Net, _holds: &Holds, tdi: &mut Bits)
         requires path { paths.path _net.now _holds.now ≡ Some self.old.route.items }
+        requires starts { AreStarts _net.now self.old.route.items self.old.starts.items }
         requires bits { tdi.old.items ≡ chain (reverse self.old.route.items) _holds.now }
         requires room { HasPathRoom _net.now self.old }
         requires tdi_room { HasBitRoom _net.now tdi.old }
@@ -115,7 +123,13 @@ pub fn pack_tdi_on(net: &Net, _holds: &Holds, path: &HeldPath, writes: &[WriteBi
     ensures tdi_room { length tdi.new.items + tdi.new.spare ≡ length tdi.old.items + tdi.old.spare }
 {
     copy_bits(tdi, &path.bits);
-    put_writes(tdi, net, path.route.regs().as_slice(), writes);
+    put_writes(
+        tdi,
+        net,
+        path.route.regs().as_slice(),
+        path.starts.as_slice(),
+        writes,
+    );
 }
 
 /// Leaves what a scan over a kept path expects, and where that is compared, in two lists, position 0 first.
@@ -143,7 +157,8 @@ pub fn pack_reads_on(
     ensures mask_room { length mask.new.items + mask.new.spare ≡ length mask.old.items + mask.old.spare }
 {
     let regs = path.route.regs().as_slice();
-    fill_reads(net, regs, path.bits.len(), reads, tdo, mask);
+    let starts = path.starts.as_slice();
+    fill_reads(net, regs, starts, path.bits.len(), reads, tdo, mask);
 }
 
 /// Leaves the bits of a plan's flush in three lists, as [`pack_flush`](crate::pack_flush) does, by the active

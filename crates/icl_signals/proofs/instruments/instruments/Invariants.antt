@@ -7,11 +7,10 @@ use Rattle.icl_references.specs.Roles.{seen_cell}
 use Rattle.icl_signals.specs.Refusals.{after}
 use Rattle.icl_signals.specs.Wirings.{cells_of}
 use Rattle.icl_signals.specs.Connecting.{instrument_of, instruments}
-use Rattle.icl_signals.specs.PlainNets.{seen_inst}
 use Rattle.icl_signals.proofs.instruments.instruments.Given as goal
 
 abbrev pub invariant-loop-cell : goal.invariant-loop-cell
 invariant-loop-cell l =
-    after (map seen_inst l.all.items) (each (instrument_of (cells_of l.wiring) l.wiring.entry) (filter
+    after l.all.items (each (instrument_of (cells_of l.wiring) l.wiring.entry) (filter
     (λ c. is_instrument c.1) (enumerate_from l.number (map seen_cell (drop l.cell-index l.cell-items)))))
     ≡ each (instrument_of (cells_of l.wiring) l.wiring.entry) (instruments (cells_of l.wiring))

@@ -4,10 +4,9 @@ use Rattle.icl_signals.specs.Refusals.{after}
 use Rattle.icl_signals.specs.Wirings.{cells_of}
 use Rattle.icl_signals.specs.Connecting.{register_of}
 use Rattle.icl_signals.specs.TrueEnds.{seen_entry}
-use Rattle.icl_signals.specs.PlainNets.{seen_reg}
 use Rattle.icl_signals.proofs.registers.registers.Given as goal
 
 abbrev pub invariant-loop-e : goal.invariant-loop-e
-invariant-loop-e l = after (map seen_reg l.all.items)
+invariant-loop-e l = after l.all.items
     (each (register_of (cells_of l.wiring) l.wiring.entry) (map seen_entry (drop l.e-index l.parts)))
     ≡ each (register_of (cells_of l.wiring) l.wiring.entry) (map seen_entry l.parts)

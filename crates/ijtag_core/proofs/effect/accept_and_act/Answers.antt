@@ -15,14 +15,16 @@ use Rattle.ijtag_core.proofs.effect.accept_and_act.Goals as goal
 pub returns-clause-part : goal.returns-clause-part
 returns-clause-part g c =
     let files : Option Files = g.S.Shelf.files c.args.shelf.now in
-    let mid : Option Files = g.S.Shelf.files c.load_texts.new.shelf in
+    let mid : Option Files = g.S.Shelf.files c.load.new.shelf in
     let row : Row = g.E.Effect.table_row c.args.effect.now in
     let texts : List (List ℕ) = seen_texts c.in_ok-texts.texts.items in
-    let named : Texts = seen_named c.texts_in.result in
+    let named : Texts = seen_named c.texts.result in
     let it : SeenAccepted = seen_accepted c.in_ok-it.it in
-    let read : (loaded files (loads_of row.inputs)).gives texts = c.in_ok-texts.ensures.follows in
-    let is : texts_of row.inputs texts ≡ Some named = subst (λ ts. texts_of row.inputs (seen_texts ts)
-    ≡ Some named) c.deref.ensures.value c.texts_in.ensures.texts in
+    let read : (loaded files (loads_of row.inputs)).gives texts =
+    rw (← c.words-words.ensures) c.in_ok-texts.ensures.follows in
+    let is : texts_of row.inputs texts ≡ Some named = rw (← c.words-words.ensures)
+    (subst (λ ts. texts_of (g.E.Words.Inputs.named c.words-words.result.now) (seen_texts ts) ≡ Some named)
+    c.deref.ensures.value c.texts.ensures.texts) in
     let given : (accepted named).gives it = c.in_ok-it.ensures.follows in
     let old_printed : Option (List ℕ) = g.O.Sink.taken c.args.out.now in
     let now : Seen = record {
@@ -39,23 +41,25 @@ returns-clause-stop g c =
     let files : Option Files = g.S.Shelf.files c.args.shelf.now in
     let row : Row = g.E.Effect.table_row c.args.effect.now in
     let texts : List (List ℕ) = seen_texts c.in_ok-texts.texts.items in
-    let named : Texts = seen_named c.texts_in.result in
+    let named : Texts = seen_named c.texts.result in
     let it : SeenAccepted = seen_accepted c.in_ok-it.it in
-    let read : (loaded files (loads_of row.inputs)).gives texts = c.in_ok-texts.ensures.follows in
-    let is : texts_of row.inputs texts ≡ Some named = subst (λ ts. texts_of row.inputs (seen_texts ts)
-    ≡ Some named) c.deref.ensures.value c.texts_in.ensures.texts in
+    let read : (loaded files (loads_of row.inputs)).gives texts =
+    rw (← c.words-words.ensures) c.in_ok-texts.ensures.follows in
+    let is : texts_of row.inputs texts ≡ Some named = rw (← c.words-words.ensures)
+    (subst (λ ts. texts_of (g.E.Words.Inputs.named c.words-words.result.now) (seen_texts ts) ≡ Some named)
+    c.deref.ensures.value c.texts.ensures.texts) in
     let given : (accepted named).gives it = c.in_ok-it.ensures.follows in
     let mid : Counts = counts g.S.Shelf.load_faults g.S.Shelf.store_faults g.O.Sink.faults
-    c.load_texts.new.shelf c.act_and_flush.new.shelf c.args.out.now c.act_and_flush.new.out in
+    c.load.new.shelf c.act_and_flush.new.shelf c.args.out.now c.act_and_flush.new.out in
     late_stop files (task_of row) (row.leaves it) (row_gives row files texts named it read is given)
     (row_refuses row files texts named it read is given)
     (g.S.Shelf.load_faults c.args.shelf.now) (g.S.Shelf.load_faults c.act_and_flush.new.shelf)
-    (g.S.Shelf.store_faults c.args.shelf.now) mid c.load_texts.ensures.stores
+    (g.S.Shelf.store_faults c.args.shelf.now) mid c.load.ensures.stores
     (seen_stop c.in-Err.stop) c.in-Err.ensures.stop
 
 pub returns-clause-early : goal.returns-clause-early
 returns-clause-early g c =
-    let same : g.S.Shelf.files c.load_texts.new.shelf
+    let same : g.S.Shelf.files c.load.new.shelf
     ≡ g.S.Shelf.files c.args.shelf.now = c.in_ok-texts.ensures.files in
     λ early. none_first (g.S.Shelf.files c.args.shelf.now) (g.S.Shelf.files c.act_and_flush.new.shelf)
     ((c.in-Err.ensures.early early).0 ∙ same)

@@ -1,7 +1,5 @@
-use Rattle.std.proofs.Common.{◌≡◌, List, ◌∷◌, map, refl, sym, subst}
-use Rattle.ijtag_stages.specs.Follows.{IsFault}
+use Rattle.std.proofs.Common.{List, map, refl, sym, subst}
 use Rattle.ijtag_stages.specs.declared.refusal.StageFault.{StageFault}
-use Rattle.ijtag_work.specs.Leaves.{Written}
 use Rattle.ijtag_work.specs.Order.{taken}
 use Rattle.ijtag_core.specs.Files.{seen_file, text_of}
 use Rattle.ijtag_core.specs.declared.made_files.MadeFile.{MadeFile}
@@ -18,28 +16,20 @@ returns-in-empty t c =
 
 pub returns-in_err-check_length-in-len1-up : goal.returns-in_err-check_length-in-len1-up
 returns-in_err-check_length-in-len1-up t c =
-    let files : List MadeFile = c.args.files.now in
-    let first : Written = seen_file (first_of files) in
-    let rest : List Written = map seen_file (others_of files) in
-    let are : map seen_file files ≡ first ∷ rest = seen_cut files c.in-len1-up.len_at_least in
     let fault : StageFault = c.in_err-check_length-in-len1-up.field-0.0 in
-    let is : IsFault (taken (map seen_file files)) fault =
-    subst (λ (ws : List Written). IsFault (taken ws) fault) (sym are)
-    (first_refused first rest fault c.in_err-check_length-in-len1-up.ensures) in
-    follows_fault (taken (map seen_file files)) _ c.from_residual.result fault c.from_residual.ensures.1 is
+    follows_fault (taken (map seen_file c.args.files.now)) _ c.from_residual.result fault
+    c.from_residual.ensures.1 (rw (seen_cut c.args.files.now c.in-len1-up.len_at_least)
+    (first_refused _ _ fault c.in_err-check_length-in-len1-up.ensures))
 
 pub returns-in_err-check_lengths-in-len1-up : goal.returns-in_err-check_lengths-in-len1-up
 returns-in_err-check_lengths-in-len1-up t c =
-    let files : List MadeFile = c.args.files.now in
-    let first : Written = seen_file (first_of files) in
-    let rest : List Written = map seen_file (others_of files) in
-    let are : map seen_file files ≡ first ∷ rest = seen_cut files c.in-len1-up.len_at_least in
     let fault : StageFault = c.in_err-check_lengths-in-len1-up.field-0.0 in
-    let is : IsFault (taken (map seen_file files)) fault =
-    subst (λ (ws : List Written). IsFault (taken ws) fault) (sym are) (later_refused first rest first.bytes
-    fault c.in_ok-check_length-in-len1-up.ensures c.in_err-check_lengths-in-len1-up.ensures) in
-    follows_fault (taken (map seen_file files)) _ c.from_residual-in_err-check_lengths-in-len1-up.result fault
-    c.from_residual-in_err-check_lengths-in-len1-up.ensures.1 is
+    follows_fault (taken (map seen_file c.args.files.now)) _
+    c.from_residual-in_err-check_lengths-in-len1-up.result fault
+    c.from_residual-in_err-check_lengths-in-len1-up.ensures.1
+    (rw (seen_cut c.args.files.now c.in-len1-up.len_at_least)
+    (later_refused _ _ _ fault c.in_ok-check_length-in-len1-up.ensures
+    c.in_err-check_lengths-in-len1-up.ensures))
 
 pub returns-in_ok-check_lengths-in-len1-up : goal.returns-in_ok-check_lengths-in-len1-up
 returns-in_ok-check_lengths-in-len1-up t c =

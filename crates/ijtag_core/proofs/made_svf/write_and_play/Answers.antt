@@ -3,7 +3,7 @@ use Rattle.ij_io.proofs.Adding.{at_refusal}
 use Rattle.ijtag_work.specs.Late.{IsPartOf}
 use Rattle.ijtag_work.specs.Accepted.{SeenAccepted}
 use Rattle.ijtag_work.specs.Order.{made_of}
-use Rattle.ijtag_work.specs.Runs.{Counts, Seen, counts}
+use Rattle.ijtag_work.specs.Runs.{Counts, Seen, counts, seen}
 use Rattle.ijtag_work.specs.Seen.{seen_stop, differing}
 use Rattle.ijtag_work.specs.Stops.{Stop}
 use Rattle.ijtag_work.specs.Using.{seen_accepted}
@@ -28,10 +28,8 @@ pub returns-in_err-commands-clause-part : goal.returns-in_err-commands-clause-pa
 returns-in_err-commands-clause-part g c =
     let svf : List ℕ = c.args.stem.now ++ codes ".svf" in
     let it : SeenAccepted = seen_accepted c.args.it.now in
-    let old : Seen =
-    record { files = g.S.Shelf.files c.args.shelf.now; printed = g.O.Sink.taken c.args.out.now } in
-    let new : Seen =
-    record { files = g.S.Shelf.files c.write_svf.new.shelf; printed = g.O.Sink.taken c.args.out.now } in
+    let old : Seen = seen g.S.Shelf.files g.O.Sink.taken c.args.shelf.now c.args.out.now in
+    let new : Seen = seen g.S.Shelf.files g.O.Sink.taken c.write_svf.new.shelf c.args.out.now in
     let part : IsPartOf (made_of [] svf it) old new =
     svf_part svf it old new refl c.in_err-commands.ensures.part in
     at_refusal _ part
@@ -40,12 +38,8 @@ pub returns-in-Ok-clause-done : goal.returns-in-Ok-clause-done
 returns-in-Ok-clause-done g c =
     let svf : List ℕ = c.args.stem.now ++ codes ".svf" in
     let it : SeenAccepted = seen_accepted c.args.it.now in
-    let old : Seen =
-    record { files = g.S.Shelf.files c.args.shelf.now; printed = g.O.Sink.taken c.args.out.now } in
-    let new : Seen = record {
-      files = g.S.Shelf.files c.write_svf.new.shelf;
-      printed = g.O.Sink.taken c.put_report.new.out;
-    } in
+    let old : Seen = seen g.S.Shelf.files g.O.Sink.taken c.args.shelf.now c.args.out.now in
+    let new : Seen = seen g.S.Shelf.files g.O.Sink.taken c.write_svf.new.shelf c.put_report.new.out in
     line_done svf it old new c.in_ok-commands.commands c.in_ok-commands.ensures.whole
     (differing c.in-Ok.verdict) c.in-Ok.ensures.printed c.in-Ok.ensures.verdict
 
@@ -53,12 +47,8 @@ pub returns-clause-stop : goal.returns-clause-stop
 returns-clause-stop g c =
     let svf : List ℕ = c.args.stem.now ++ codes ".svf" in
     let it : SeenAccepted = seen_accepted c.args.it.now in
-    let old : Seen =
-    record { files = g.S.Shelf.files c.args.shelf.now; printed = g.O.Sink.taken c.args.out.now } in
-    let new : Seen = record {
-      files = g.S.Shelf.files c.write_svf.new.shelf;
-      printed = g.O.Sink.taken c.put_report.new.out;
-    } in
+    let old : Seen = seen g.S.Shelf.files g.O.Sink.taken c.args.shelf.now c.args.out.now in
+    let new : Seen = seen g.S.Shelf.files g.O.Sink.taken c.write_svf.new.shelf c.put_report.new.out in
     let now : Counts = counts g.S.Shelf.load_faults g.S.Shelf.store_faults g.O.Sink.faults c.args.shelf.now
     c.write_svf.new.shelf c.args.out.now c.put_report.new.out in
     subst (λ (s : Stop). IsPlayStop (made_of [] svf it) svf now s) (sym c.of_output.ensures.stop)
@@ -69,10 +59,6 @@ pub returns-clause-part : goal.returns-clause-part
 returns-clause-part g c =
     let svf : List ℕ = c.args.stem.now ++ codes ".svf" in
     let it : SeenAccepted = seen_accepted c.args.it.now in
-    let old : Seen =
-    record { files = g.S.Shelf.files c.args.shelf.now; printed = g.O.Sink.taken c.args.out.now } in
-    let new : Seen = record {
-      files = g.S.Shelf.files c.write_svf.new.shelf;
-      printed = g.O.Sink.taken c.put_report.new.out;
-    } in
+    let old : Seen = seen g.S.Shelf.files g.O.Sink.taken c.args.shelf.now c.args.out.now in
+    let new : Seen = seen g.S.Shelf.files g.O.Sink.taken c.write_svf.new.shelf c.put_report.new.out in
     line_part svf it old new c.in_ok-commands.commands c.in_ok-commands.ensures.whole c.in-Err.ensures.part

@@ -7,14 +7,14 @@ use Rattle.ijtag_work.specs.Accepted.{SeenAccepted}
 use Rattle.ijtag_work.specs.Command.{Make, made_names}
 use Rattle.ijtag_work.specs.Leaves.{Written}
 use Rattle.ijtag_work.specs.Order.{accepted_made, made_files, make, written_as}
-use Rattle.ijtag_work.specs.Runs.{AllHold, AreFirstWritten, Counts, HoldInTurn, IsPartDone, IsStop}
-use Rattle.ijtag_work.specs.Runs.{OnlyTheseRise, Seen, counts}
+use Rattle.ijtag_work.specs.Runs.{AreFirstWritten, Counts, IsPartDone, IsStop}
+use Rattle.ijtag_work.specs.Runs.{Seen, counts}
 use Rattle.ijtag_work.specs.Seen.{seen_stop, stop_from, differing}
 use Rattle.ijtag_work.specs.Using.{seen_accepted}
 use Rattle.ijtag_work.specs.Words.{seen_make}
 use Rattle.ijtag_work.specs.Stops.{IsEarly}
 use Rattle.ijtag_work.specs.declared.stop.Stop.{Stop as RustStop}
-use Rattle.ijtag_core.specs.Files.{AreApart, IsWriteStopOf, OthersAllStay, file_names, texts_of}
+use Rattle.ijtag_core.specs.Files.{AreApart, texts_of}
 use Rattle.ijtag_core.proofs.Exits.{at_fault}
 use Rattle.ijtag_core.proofs.Making.{accept_early, accept_stop, early_refused, five_change, five_rise}
 use Rattle.ijtag_core.proofs.Making.{four_change, four_rise, make_done, make_part, play_not_early, play_stop}
@@ -73,9 +73,7 @@ returns-in_err-write_each-clause-stop g c =
     let k : Counts = counts g.S.Shelf.load_faults g.S.Shelf.store_faults g.O.Sink.faults c.args.shelf.now
     c.write_each.new.shelf c.args.out.now c.args.out.now in
     let fault : RustStop = c.in_err-write_each.field-0.0 in
-    let is : IsWriteStopOf (made_names m.stem) before between (seen_stop fault) =
-    subst (λ (vs : List Written). IsWriteStopOf (file_names vs) before between (seen_stop fault))
-    c.files_of.ensures c.in_err-write_each.ensures.stop in
+    let is = rw c.files_of.ensures at c.in_err-write_each.ensures.stop in
     at_fault (λ (s : RustStop). IsStop files (make m) k (seen_stop s))
     c.from_residual-in_err-write_each.result fault c.from_residual-in_err-write_each.ensures.1
     (write_stop files m ws given k (seen_stop fault) is)
@@ -88,9 +86,7 @@ returns-in_err-write_each-clause-early g c =
     let before : List ℕ → ℕ = g.S.Shelf.store_faults c.args.shelf.now in
     let between : List ℕ → ℕ = g.S.Shelf.store_faults c.write_each.new.shelf in
     let fault : RustStop = c.in_err-write_each.field-0.0 in
-    let is : IsWriteStopOf (made_names m.stem) before between (seen_stop fault) =
-    subst (λ (vs : List Written). IsWriteStopOf (file_names vs) before between (seen_stop fault))
-    c.files_of.ensures c.in_err-write_each.ensures.stop in
+    let is = rw c.files_of.ensures at c.in_err-write_each.ensures.stop in
     let told : IsEarly (seen_stop fault) → AreFirstWritten (made_files m) (made_names m.stem) files mid =
     λ early. absurd (write_not_early (made_names m.stem) before between (seen_stop fault) is early) in
     at_fault (λ (s : RustStop). IsEarly (seen_stop s)
@@ -105,10 +101,8 @@ returns-in_err-write_each-clause-part g c =
     let given : (made_files m).gives ws = c.in_ok-made.ensures in
     let mid : Option Files = g.S.Shelf.files c.write_each.new.shelf in
     let p : Option (List ℕ) = g.O.Sink.taken c.args.out.now in
-    let turn : HoldInTurn ws files mid = subst (λ (vs : List Written). HoldInTurn vs files mid)
-    c.files_of.ensures c.in_err-write_each.ensures.part in
-    let four : OthersAllStay (made_names m.stem) files mid = subst (λ (vs : List Written). OthersAllStay
-    (file_names vs) files mid) c.files_of.ensures c.write_each.ensures.others in
+    let turn = rw c.files_of.ensures at c.in_err-write_each.ensures.part in
+    let four = rw c.files_of.ensures at c.write_each.ensures.others in
     let part : IsPartDone files (make m) (record { files = files; printed = p })
     (record { files = mid; printed = p }) = write_part files m ws given mid p turn four in
     at_refusal _ part
@@ -118,8 +112,7 @@ returns-in_err-write_each-clause-files g c =
     let files : Option Files = g.S.Shelf.files c.args.shelf.now in
     let m : Make = seen_make c.args.words.now in
     let mid : Option Files = g.S.Shelf.files c.write_each.new.shelf in
-    let four : OthersAllStay (made_names m.stem) files mid = subst (λ (vs : List Written). OthersAllStay
-    (file_names vs) files mid) c.files_of.ensures c.write_each.ensures.others in
+    let four = rw c.files_of.ensures at c.write_each.ensures.others in
     four_change m files mid four
 
 pub returns-in_err-write_each-clause-stores : goal.returns-in_err-write_each-clause-stores
@@ -127,8 +120,7 @@ returns-in_err-write_each-clause-stores g c =
     let m : Make = seen_make c.args.words.now in
     let before : List ℕ → ℕ = g.S.Shelf.store_faults c.args.shelf.now in
     let between : List ℕ → ℕ = g.S.Shelf.store_faults c.write_each.new.shelf in
-    let rise : OnlyTheseRise (made_names m.stem) before between = subst (λ (vs : List Written). OnlyTheseRise
-    (file_names vs) before between) c.files_of.ensures c.write_each.ensures.stores in
+    let rise = rw c.files_of.ensures at c.write_each.ensures.stores in
     four_rise m before between rise
 
 -- ---- the texts are refused
@@ -153,11 +145,9 @@ returns-in_err-it-clause-early g c =
     let ws : List Written = written_as (made_names m.stem) (texts_of c.in_ok-made.made) in
     let given : (made_files m).gives ws = c.in_ok-made.ensures in
     let mid : Option Files = g.S.Shelf.files c.write_each.new.shelf in
-    let whole : AllHold ws files mid = subst
-    (λ (vs : List Written). AllHold vs files mid) c.files_of.ensures c.in_ok-write_each.ensures.whole in
+    let whole = rw c.files_of.ensures at c.in_ok-write_each.ensures.whole in
     let fault : StageFault = c.in_err-it.field-0.0 in
-    let four : OthersAllStay (made_names m.stem) files mid = subst (λ (vs : List Written). OthersAllStay
-    (file_names vs) files mid) c.files_of.ensures c.write_each.ensures.others in
+    let four = rw c.files_of.ensures at c.write_each.ensures.others in
     let told : IsEarly (seen_stop (stop_from fault))
     → AreFirstWritten (made_files m) (made_names m.stem) files mid =
     λ early. accept_early files m ws given mid whole four in
@@ -172,10 +162,8 @@ returns-in_err-it-clause-part g c =
     let ws : List Written = written_as (made_names m.stem) (texts_of c.in_ok-made.made) in
     let given : (made_files m).gives ws = c.in_ok-made.ensures in
     let mid : Option Files = g.S.Shelf.files c.write_each.new.shelf in
-    let whole : AllHold ws files mid = subst
-    (λ (vs : List Written). AllHold vs files mid) c.files_of.ensures c.in_ok-write_each.ensures.whole in
-    let four : OthersAllStay (made_names m.stem) files mid = subst (λ (vs : List Written). OthersAllStay
-    (file_names vs) files mid) c.files_of.ensures c.write_each.ensures.others in
+    let whole = rw c.files_of.ensures at c.in_ok-write_each.ensures.whole in
+    let four = rw c.files_of.ensures at c.write_each.ensures.others in
     let p : Option (List ℕ) = g.O.Sink.taken c.args.out.now in
     let part : IsPartDone files (make m) (record { files = files; printed = p })
     (record { files = mid; printed = p }) =
@@ -187,8 +175,7 @@ returns-in_err-it-clause-files g c =
     let files : Option Files = g.S.Shelf.files c.args.shelf.now in
     let m : Make = seen_make c.args.words.now in
     let mid : Option Files = g.S.Shelf.files c.write_each.new.shelf in
-    let four : OthersAllStay (made_names m.stem) files mid = subst (λ (vs : List Written). OthersAllStay
-    (file_names vs) files mid) c.files_of.ensures c.write_each.ensures.others in
+    let four = rw c.files_of.ensures at c.write_each.ensures.others in
     four_change m files mid four
 
 pub returns-in_err-it-clause-stores : goal.returns-in_err-it-clause-stores
@@ -196,8 +183,7 @@ returns-in_err-it-clause-stores g c =
     let m : Make = seen_make c.args.words.now in
     let before : List ℕ → ℕ = g.S.Shelf.store_faults c.args.shelf.now in
     let between : List ℕ → ℕ = g.S.Shelf.store_faults c.write_each.new.shelf in
-    let rise : OnlyTheseRise (made_names m.stem) before between = subst (λ (vs : List Written). OnlyTheseRise
-    (file_names vs) before between) c.files_of.ensures c.write_each.ensures.stores in
+    let rise = rw c.files_of.ensures at c.write_each.ensures.stores in
     four_rise m before between rise
 
 -- ---- all is done
@@ -210,15 +196,13 @@ returns-in-Ok-clause-done g c =
     let given : (made_files m).gives ws = c.in_ok-made.ensures in
     let mid : Option Files = g.S.Shelf.files c.write_each.new.shelf in
     let new : Option Files = g.S.Shelf.files c.write_and_play.new.shelf in
-    let whole : AllHold ws files mid = subst
-    (λ (vs : List Written). AllHold vs files mid) c.files_of.ensures c.in_ok-write_each.ensures.whole in
+    let whole = rw c.files_of.ensures at c.in_ok-write_each.ensures.whole in
     let it : SeenAccepted = seen_accepted c.in_ok-it.it in
     let is : (accepted_made ws).gives it = c.in_ok-it.ensures.follows in
     let svf : List ℕ = m.stem ++ codes ".svf" in
     let icl : Written = record { name = m.stem ++ codes ".icl"; bytes = c.in_ok-made.made.icl.items } in
     let alike : AreToldAlike files mid = told_whole files mid icl whole.0 in
-    let four : OthersAllStay (made_names m.stem) files mid = subst (λ (vs : List Written). OthersAllStay
-    (file_names vs) files mid) c.files_of.ensures c.write_each.ensures.others in
+    let four = rw c.files_of.ensures at c.write_each.ensures.others in
     let stays : file_at mid svf ≡ file_at files svf = four svf (svf_apart m.stem) in
     let p : Option (List ℕ) = g.O.Sink.taken c.args.out.now in
     let q : Option (List ℕ) = g.O.Sink.taken c.write_and_play.new.out in
@@ -231,8 +215,7 @@ returns-in-Ok-clause-files g c =
     let m : Make = seen_make c.args.words.now in
     let mid : Option Files = g.S.Shelf.files c.write_each.new.shelf in
     let new : Option Files = g.S.Shelf.files c.write_and_play.new.shelf in
-    let four : OthersAllStay (made_names m.stem) files mid = subst (λ (vs : List Written). OthersAllStay
-    (file_names vs) files mid) c.files_of.ensures c.write_each.ensures.others in
+    let four = rw c.files_of.ensures at c.write_each.ensures.others in
     five_change m files mid new four c.write_and_play.ensures.others
 
 pub returns-in-Ok-clause-stores : goal.returns-in-Ok-clause-stores
@@ -241,8 +224,7 @@ returns-in-Ok-clause-stores g c =
     let before : List ℕ → ℕ = g.S.Shelf.store_faults c.args.shelf.now in
     let between : List ℕ → ℕ = g.S.Shelf.store_faults c.write_each.new.shelf in
     let now : List ℕ → ℕ = g.S.Shelf.store_faults c.write_and_play.new.shelf in
-    let rise : OnlyTheseRise (made_names m.stem) before between = subst (λ (vs : List Written). OnlyTheseRise
-    (file_names vs) before between) c.files_of.ensures c.write_each.ensures.stores in
+    let rise = rw c.files_of.ensures at c.write_each.ensures.stores in
     five_rise m before between now rise c.write_and_play.ensures.stores
 
 -- ---- a store of the SVF file failed, or a write of the line
@@ -258,8 +240,7 @@ returns-clause-stop g c =
     let svf : List ℕ = m.stem ++ codes ".svf" in
     let before : List ℕ → ℕ = g.S.Shelf.store_faults c.args.shelf.now in
     let between : List ℕ → ℕ = g.S.Shelf.store_faults c.write_each.new.shelf in
-    let rise : OnlyTheseRise (made_names m.stem) before between = subst (λ (vs : List Written). OnlyTheseRise
-    (file_names vs) before between) c.files_of.ensures c.write_each.ensures.stores in
+    let rise = rw c.files_of.ensures at c.write_each.ensures.stores in
     let k : Counts = counts g.S.Shelf.load_faults g.S.Shelf.store_faults g.O.Sink.faults
     c.write_each.new.shelf c.write_and_play.new.shelf c.args.out.now c.write_and_play.new.out in
     let same : between svf ≡ before svf = rise svf (svf_apart m.stem) in
@@ -293,15 +274,13 @@ returns-clause-part g c =
     let given : (made_files m).gives ws = c.in_ok-made.ensures in
     let mid : Option Files = g.S.Shelf.files c.write_each.new.shelf in
     let new : Option Files = g.S.Shelf.files c.write_and_play.new.shelf in
-    let whole : AllHold ws files mid = subst
-    (λ (vs : List Written). AllHold vs files mid) c.files_of.ensures c.in_ok-write_each.ensures.whole in
+    let whole = rw c.files_of.ensures at c.in_ok-write_each.ensures.whole in
     let it : SeenAccepted = seen_accepted c.in_ok-it.it in
     let is : (accepted_made ws).gives it = c.in_ok-it.ensures.follows in
     let svf : List ℕ = m.stem ++ codes ".svf" in
     let icl : Written = record { name = m.stem ++ codes ".icl"; bytes = c.in_ok-made.made.icl.items } in
     let alike : AreToldAlike files mid = told_whole files mid icl whole.0 in
-    let four : OthersAllStay (made_names m.stem) files mid = subst (λ (vs : List Written). OthersAllStay
-    (file_names vs) files mid) c.files_of.ensures c.write_each.ensures.others in
+    let four = rw c.files_of.ensures at c.write_each.ensures.others in
     let stays : file_at mid svf ≡ file_at files svf = four svf (svf_apart m.stem) in
     let p : Option (List ℕ) = g.O.Sink.taken c.args.out.now in
     let q : Option (List ℕ) = g.O.Sink.taken c.write_and_play.new.out in
@@ -314,8 +293,7 @@ returns-clause-files g c =
     let m : Make = seen_make c.args.words.now in
     let mid : Option Files = g.S.Shelf.files c.write_each.new.shelf in
     let new : Option Files = g.S.Shelf.files c.write_and_play.new.shelf in
-    let four : OthersAllStay (made_names m.stem) files mid = subst (λ (vs : List Written). OthersAllStay
-    (file_names vs) files mid) c.files_of.ensures c.write_each.ensures.others in
+    let four = rw c.files_of.ensures at c.write_each.ensures.others in
     five_change m files mid new four c.write_and_play.ensures.others
 
 pub returns-clause-stores : goal.returns-clause-stores
@@ -324,6 +302,5 @@ returns-clause-stores g c =
     let before : List ℕ → ℕ = g.S.Shelf.store_faults c.args.shelf.now in
     let between : List ℕ → ℕ = g.S.Shelf.store_faults c.write_each.new.shelf in
     let now : List ℕ → ℕ = g.S.Shelf.store_faults c.write_and_play.new.shelf in
-    let rise : OnlyTheseRise (made_names m.stem) before between = subst (λ (vs : List Written). OnlyTheseRise
-    (file_names vs) before between) c.files_of.ensures c.write_each.ensures.stores in
+    let rise = rw c.files_of.ensures at c.write_each.ensures.stores in
     five_rise m before between now rise c.write_and_play.ensures.stores

@@ -65,8 +65,5 @@ returns-clause-printed g c =
 pub returns-clause-verdict : goal.returns-clause-verdict
 returns-clause-verdict g c =
     let it : SeenAccepted = seen_accepted c.args.it.now in
-    let models : map seen_model c.models.result.now.items ≡ it.models =
-    ap (λ (ms : List Model). map seen_model ms) c.models.ensures ∙ sym c.models-models.ensures.is in
     verdict_is _ (differs_of it.network.net it.device it.models c.args.commands.now) (differing
-    c.of_count.result) _ c.of_count.ensures.none c.of_count.ensures.some c.in_ok-differs.ensures.differs
-    (ap (λ (ms : List SeenModel). differs_of it.network.net it.device ms c.args.commands.now) models)
+    c.of_count.result) _ c.of_count.ensures.none c.of_count.ensures.some c.in_ok-differs.ensures.differs (cc)

@@ -14,8 +14,7 @@ returns-in_err-write_file-clause-part g c =
     let name : List ℕ = c.args.name.now in
     let it : SeenAccepted = seen_accepted c.args.it.now in
     let bytes : List ℕ = c.bytes-bytes.result.now in
-    let written : (written_text it).gives bytes = subst (λ (b : List ℕ). (written_text it).gives b)
-    (sym c.bytes-bytes.ensures) c.in_ok-svf.ensures.text in
+    let written = subst (written_text it).gives (sym c.bytes-bytes.ensures) c.in_ok-svf.ensures.text in
     let old : Option Files = g.S.Shelf.files c.args.shelf.now in
     let new : Option Files = g.S.Shelf.files c.write_file.new.shelf in
     let part : (new ≡ old) ⊎ IsPartFiled (written_text it) old new name =
@@ -26,8 +25,7 @@ pub returns-in_err-write_file-clause-text : goal.returns-in_err-write_file-claus
 returns-in_err-write_file-clause-text g c =
     let it : SeenAccepted = seen_accepted c.args.it.now in
     let bytes : List ℕ = c.bytes-bytes.result.now in
-    let written : (written_text it).gives bytes = subst (λ (b : List ℕ). (written_text it).gives b)
-    (sym c.bytes-bytes.ensures) c.in_ok-svf.ensures.text in
+    let written = subst (written_text it).gives (sym c.bytes-bytes.ensures) c.in_ok-svf.ensures.text in
     λ failed. (bytes, written)
 
 pub read_commands-requires : goal.read_commands-requires
@@ -35,8 +33,7 @@ read_commands-requires g c =
     let name : List ℕ = c.args.name.now in
     let it : SeenAccepted = seen_accepted c.args.it.now in
     let bytes : List ℕ = c.bytes-bytes.result.now in
-    let written : (written_text it).gives bytes = subst (λ (b : List ℕ). (written_text it).gives b)
-    (sym c.bytes-bytes.ensures) c.in_ok-svf.ensures.text in
+    let written = subst (written_text it).gives (sym c.bytes-bytes.ensures) c.in_ok-svf.ensures.text in
     record { short = short name it bytes written; written = found name it bytes written }
 
 pub returns-in_err-commands-clause-part : goal.returns-in_err-commands-clause-part
@@ -44,8 +41,7 @@ returns-in_err-commands-clause-part g c =
     let name : List ℕ = c.args.name.now in
     let it : SeenAccepted = seen_accepted c.args.it.now in
     let bytes : List ℕ = c.bytes-bytes.result.now in
-    let written : (written_text it).gives bytes = subst (λ (b : List ℕ). (written_text it).gives b)
-    (sym c.bytes-bytes.ensures) c.in_ok-svf.ensures.text in
+    let written = subst (written_text it).gives (sym c.bytes-bytes.ensures) c.in_ok-svf.ensures.text in
     let old : Option Files = g.S.Shelf.files c.args.shelf.now in
     let new : Option Files = g.S.Shelf.files c.write_file.new.shelf in
     let part : (new ≡ old) ⊎ IsPartFiled (written_text it) old new name =
@@ -60,16 +56,14 @@ pub returns-in_err-commands-clause-text : goal.returns-in_err-commands-clause-te
 returns-in_err-commands-clause-text g c =
     let it : SeenAccepted = seen_accepted c.args.it.now in
     let bytes : List ℕ = c.bytes-bytes.result.now in
-    let written : (written_text it).gives bytes = subst (λ (b : List ℕ). (written_text it).gives b)
-    (sym c.bytes-bytes.ensures) c.in_ok-svf.ensures.text in
+    let written = subst (written_text it).gives (sym c.bytes-bytes.ensures) c.in_ok-svf.ensures.text in
     λ failed. (bytes, written)
 
 pub returns-clause-whole : goal.returns-clause-whole
 returns-clause-whole g c =
     let it : SeenAccepted = seen_accepted c.args.it.now in
     let bytes : List ℕ = c.bytes-bytes.result.now in
-    let written : (written_text it).gives bytes = subst (λ (b : List ℕ). (written_text it).gives b)
-    (sym c.bytes-bytes.ensures) c.in_ok-svf.ensures.text in
+    let written = subst (written_text it).gives (sym c.bytes-bytes.ensures) c.in_ok-svf.ensures.text in
     record {
       bytes = bytes;
       given = written;
@@ -81,6 +75,5 @@ pub returns-clause-text : goal.returns-clause-text
 returns-clause-text g c =
     let it : SeenAccepted = seen_accepted c.args.it.now in
     let bytes : List ℕ = c.bytes-bytes.result.now in
-    let written : (written_text it).gives bytes = subst (λ (b : List ℕ). (written_text it).gives b)
-    (sym c.bytes-bytes.ensures) c.in_ok-svf.ensures.text in
+    let written = subst (written_text it).gives (sym c.bytes-bytes.ensures) c.in_ok-svf.ensures.text in
     λ failed. (bytes, written)

@@ -6,20 +6,14 @@ use Rattle.ijtag_work.specs.Command.{Command, command_in}
 use Rattle.ijtag_work.specs.Ends.{IsRun, seen_in, views, world}
 use Rattle.ijtag_work.specs.Order.{task}
 use Rattle.ijtag_work.specs.Runs.{counts}
-use Rattle.ijtag_work.specs.Stops.{usage_line}
+use Rattle.ijtag_work.specs.Stops.{usage_text}
 use Rattle.ijtag_work.proofs.Audits.{own_good}
 use Rattle.ijtag_work.proofs.ByStatus.{by_status}
 use Rattle.ijtag_core.proofs.Headlines.{audit_right, leaves_right, test_right}
 use Rattle.ijtag_core.proofs.top.ijtag.Goals as goal
 
 pub returns-clause-run : goal.returns-clause-run
-returns-clause-run g c =
-    let v = views g.S.Shelf.files g.S.Shelf.load_faults g.S.Shelf.store_faults g.O.Sink.taken g.O.Sink.handed
-    g.O.Sink.faults g.E.Sink.taken g.E.Sink.faults in
-    let old = world c.args.shelf.now c.args.out.now c.args.err.now in
-    let new = world c.run_program.new.shelf c.run_program.new.out c.run_program.new.err in
-    subst (λ (ws : Option Command). IsRun v task usage_line ws old new c.run_program.result)
-    c.read_words.ensures c.run_program.ensures.run
+returns-clause-run g c = rw (← c.read_words.ensures) c.run_program.ensures.run
 
 pub returns-clause-headline : goal.returns-clause-headline
 returns-clause-headline g c =
@@ -28,12 +22,12 @@ returns-clause-headline g c =
     g.O.Sink.faults g.E.Sink.taken g.E.Sink.faults in
     let old = world c.args.shelf.now c.args.out.now c.args.err.now in
     let new = world c.run_program.new.shelf c.run_program.new.out c.run_program.new.err in
-    let run = subst (λ (ws : Option Command). IsRun v task usage_line ws old new c.run_program.result)
+    let run = subst (λ (ws : Option Command). IsRun v task usage_text ws old new c.run_program.result)
     c.read_words.ensures c.run_program.ensures.run in
     λ differs ends.
     leaves_right (g.S.Shelf.files c.args.shelf.now) (g.O.Sink.taken c.args.out.now)
     (seen_in v new) differs c.runs_differ_alike.ensures words
-    ((by_status v task usage_line old new c.run_program.result words run).done differs ends)
+    ((by_status v task usage_text old new c.run_program.result words run).done differs ends)
 
 pub returns-clause-own_text : goal.returns-clause-own_text
 returns-clause-own_text g c =
@@ -42,12 +36,12 @@ returns-clause-own_text g c =
     g.O.Sink.faults g.E.Sink.taken g.E.Sink.faults in
     let old = world c.args.shelf.now c.args.out.now c.args.err.now in
     let new = world c.run_program.new.shelf c.run_program.new.out c.run_program.new.err in
-    let run = subst (λ (ws : Option Command). IsRun v task usage_line ws old new c.run_program.result)
+    let run = subst (λ (ws : Option Command). IsRun v task usage_text ws old new c.run_program.result)
     c.read_words.ensures c.run_program.ensures.run in
     own_good c.own_texts_pass.ensures.files words (g.S.Shelf.files c.args.shelf.now)
     (counts g.S.Shelf.load_faults g.S.Shelf.store_faults g.O.Sink.faults c.args.shelf.now
     c.run_program.new.shelf c.args.out.now c.run_program.new.out) c.run_program.result
-    (by_status v task usage_line old new c.run_program.result words run).complete
+    (by_status v task usage_text old new c.run_program.result words run).complete
 
 pub returns-clause-tested : goal.returns-clause-tested
 returns-clause-tested g c =

@@ -1,5 +1,5 @@
 use Rattle.std.specs.Prelude.{option_map}
-use Rattle.std.proofs.Common.{◌≡◌, ◌∙◌, ap, inl, refl, sym, subst, ℕ, List, Option, Some}
+use Rattle.std.proofs.Common.{◌≡◌, ◌∙◌, ap, inl, refl, sym, subst, ℕ, false, List, Option, Some}
 use Rattle.ij_io.specs.Causes.{Rose}
 use Rattle.ij_io.specs.Files.{Files}
 use Rattle.ij_io.specs.Pieces.{HoldsPart}
@@ -11,8 +11,7 @@ use Rattle.ijtag_tools.specs.Words.{seen_graph_words}
 use Rattle.ijtag_work.specs.Follows.{seen_texts}
 use Rattle.ijtag_work.specs.Loads.{loaded}
 use Rattle.ijtag_work.specs.Order.{filed}
-use Rattle.ijtag_work.specs.Runs.{Counts, IsStop, counts}
-use Rattle.ijtag_work.specs.Stops.{Stop}
+use Rattle.ijtag_work.specs.Runs.{Counts, counts}
 use Rattle.ijtag_work.specs.Task.{work}
 use Rattle.ijtag_work.proofs.Ends.{file_done, file_part}
 use Rattle.ijtag_work.proofs.Late.{begun_in}
@@ -36,7 +35,7 @@ returns-in-Ok-clause-done g c =
     subst (λ (b : List ℕ). (work files (graph words)).gives (filed words.new b))
     (sym (c.bytes.ensures ∙ c.in_ok-text.ensures)) (texts, read, (drawn, is, refl)) in
     let same : mid ≡ files = c.in_ok-texts.ensures.files in
-    file_done (work files (graph words)) files new (g.O.Sink.taken c.args._out.now) words.new bytes own
+    file_done (work files (graph words)) files new (g.O.Sink.taken c.args._out.now) words.new bytes false own
     (c.in-Ok.ensures.whole ∙ ap (λ (fs : Option Files). option_map (λ _. Some bytes) fs) same)
 
 pub returns-clause-stop : goal.returns-clause-stop
@@ -60,10 +59,9 @@ returns-clause-stop g c =
     let now : ℕ = g.S.Shelf.store_faults c.write_file.new.shelf name in
     let k : Counts = counts g.S.Shelf.load_faults g.S.Shelf.store_faults g.O.Sink.faults c.args.shelf.now
     c.write_file.new.shelf c.args._out.now c.args._out.now in
-    subst (λ (s : Stop). IsStop files (graph words) k s) (sym c.of_file.ensures.stop)
-    (file_stop_of files (graph words) k name c.in-Err.fault (filed name bytes, own) (inl refl)
-    (λ failed. subst (λ (before : ℕ). Rose before now) (c.in_ok-texts.ensures.stores name)
-    (c.in-Err.ensures.cause.failed failed)))
+    file_stop_of files (graph words) k name c.in-Err.fault c.of_file.ensures.stop (filed name bytes, own)
+    (inl refl) (λ failed. subst (λ (before : ℕ). Rose before now) (c.in_ok-texts.ensures.stores name)
+    (c.in-Err.ensures.cause.failed failed))
 
 pub returns-clause-part : goal.returns-clause-part
 returns-clause-part g c =
@@ -83,5 +81,5 @@ returns-clause-part g c =
     (sym (c.bytes.ensures ∙ c.in_ok-text.ensures)) (texts, read, (drawn, is, refl)) in
     let same : mid ≡ files = c.in_ok-texts.ensures.files in
     begun_in files (graph words) (work files (graph words)) (λ leaves given. given) _ _
-    (file_part (work files (graph words)) files new (g.O.Sink.taken c.args._out.now) words.new bytes own
+    (file_part (work files (graph words)) files new (g.O.Sink.taken c.args._out.now) words.new bytes false own
     (subst (λ (fs : Option Files). HoldsPart fs new words.new bytes) same c.in-Err.ensures.part))

@@ -44,6 +44,9 @@ take_bits-requires-clause-path g c =
     ∙ path_stays c.args.net.now (seen_group c.args.group.now) c.args.holds.now c.requires.can.group
     ∙ c.requires.path.path
 
+pub take_bits-requires-clause-starts : goal.take_bits-requires-clause-starts
+take_bits-requires-clause-starts g c = c.requires.path.starts
+
 pub take_bits-requires-clause-bits : goal.take_bits-requires-clause-bits
 take_bits-requires-clause-bits g c =
     let route = reverse c.args.path.now.route.items in

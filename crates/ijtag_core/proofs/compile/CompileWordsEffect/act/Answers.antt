@@ -1,11 +1,10 @@
-use Rattle.std.proofs.Common.{inl, ⊎_elim, refl, sym, subst, ℕ, List, Option}
+use Rattle.std.proofs.Common.{inl, ⊎_elim, refl, false, ℕ, List, Option}
 use Rattle.ij_io.specs.Files.{Files}
 use Rattle.ijtag_work.specs.Accepted.{SeenAccepted}
 use Rattle.ijtag_work.specs.Filed.{IsPartFiled}
-use Rattle.ijtag_work.specs.Late.{IsLateStop, IsPartOf}
+use Rattle.ijtag_work.specs.Late.{IsPartOf}
 use Rattle.ijtag_work.specs.Order.{compile, compiled, filed, written_text}
 use Rattle.ijtag_work.specs.Runs.{Counts, counts, seen}
-use Rattle.ijtag_work.specs.Stops.{Stop}
 use Rattle.ijtag_work.specs.Task.{task_of}
 use Rattle.ijtag_work.specs.Using.{seen_accepted}
 use Rattle.ijtag_work.specs.Words.{seen_compile}
@@ -19,7 +18,7 @@ returns-in-Ok-clause-done g c =
     let w = c.in-Ok.ensures.whole in
     file_done (compiled name (seen_accepted c.args.it.now))
     (g.S.Shelf.files c.args.shelf.now) (g.S.Shelf.files c.write_svf.new.shelf)
-    (g.O.Sink.taken c.args._out.now) name w.bytes (w.bytes, w.given, refl) w.held
+    (g.O.Sink.taken c.args._out.now) name w.bytes false (w.bytes, w.given, refl) w.held
 
 pub returns-in-Err-clause-stop : goal.returns-in-Err-clause-stop
 returns-in-Err-clause-stop g c =
@@ -27,11 +26,9 @@ returns-in-Err-clause-stop g c =
     let part = compiled name (seen_accepted c.args.it.now) in
     let k : Counts = counts g.S.Shelf.load_faults g.S.Shelf.store_faults g.O.Sink.faults c.args.shelf.now
     c.write_svf.new.shelf c.args._out.now c.args._out.now in
-    subst (λ (s : Stop). IsLateStop part (task_of (compile (seen_compile c.args.self.now))) k s)
-    (sym c.of_file.ensures.stop)
-    (file_stops part (task_of (compile (seen_compile c.args.self.now))) k name c.in-Err.fault
-    (λ failed. let text = c.in-Err.ensures.text failed in
-    (filed name text.0, (text.0, text.1, refl))) (inl refl) c.in-Err.ensures.cause.failed)
+    file_stops part (task_of (compile (seen_compile c.args.self.now))) k name c.in-Err.fault
+    c.of_file.ensures.stop (λ failed. let text = c.in-Err.ensures.text failed in
+    (filed name text.0, (text.0, text.1, refl))) (inl refl) c.in-Err.ensures.cause.failed
 
 pub returns-in-Err-clause-part : goal.returns-in-Err-clause-part
 returns-in-Err-clause-part g c = ⊎_elim (λ same. inl (same, refl)) begun c.in-Err.ensures.part
@@ -52,4 +49,4 @@ returns-in-Err-clause-part g c = ⊎_elim (λ same. inl (same, refl)) begun c.in
         → IsPartOf (compiled name it) (seen g.S.Shelf.files g.O.Sink.taken c.args.shelf.now c.args._out.now)
         (seen g.S.Shelf.files g.O.Sink.taken c.write_svf.new.shelf c.args._out.now)
     begun w = file_part (compiled name it) files new
-        (g.O.Sink.taken c.args._out.now) name w.bytes (w.bytes, w.given, refl) w.held
+        (g.O.Sink.taken c.args._out.now) name w.bytes false (w.bytes, w.given, refl) w.held

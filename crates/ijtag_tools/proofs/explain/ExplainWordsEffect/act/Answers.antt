@@ -1,4 +1,4 @@
-use Rattle.std.proofs.Common.{refl, ℕ, List}
+use Rattle.std.proofs.Common.{refl, false, ℕ, List}
 use Rattle.ijtag_work.specs.Accepted.{SeenAccepted}
 use Rattle.ijtag_work.specs.Using.{seen_accepted}
 use Rattle.ijtag_work.proofs.Ends.{file_part}
@@ -11,4 +11,4 @@ returns-in-Err-clause-part g c =
     let it : SeenAccepted = seen_accepted c.args.it.now in
     file_part (explained name it) (g.S.Shelf.files c.args.shelf.now)
     (g.S.Shelf.files c.write_notes.new.shelf) (g.O.Sink.taken c.args._out.now)
-    name (explained_of it) (tt, c.in_ok-check_length.ensures, refl) c.in-Err.ensures.part
+    name (explained_of it) false (tt, c.in_ok-check_length.ensures, refl) c.in-Err.ensures.part

@@ -1,13 +1,11 @@
 use Rattle.std.specs.Prelude.{option_map}
-use Rattle.std.proofs.Common.{◌≡◌, ◌∙◌, inl, refl, sym, subst, ℕ, List, Some}
+use Rattle.std.proofs.Common.{◌≡◌, ◌∙◌, inl, refl, subst, ℕ, false, List, Some}
 use Rattle.ij_io.specs.Files.{file_at}
 use Rattle.ij_io.specs.Pieces.{HoldsPart}
 use Rattle.ijtag_work.specs.Accepted.{SeenAccepted}
 use Rattle.ijtag_work.specs.Using.{seen_accepted}
-use Rattle.ijtag_work.specs.Late.{IsLateStop}
 use Rattle.ijtag_work.specs.Order.{filed}
 use Rattle.ijtag_work.specs.Runs.{Counts, counts}
-use Rattle.ijtag_work.specs.Stops.{Stop}
 use Rattle.ijtag_work.specs.Task.{task_of}
 use Rattle.ijtag_work.proofs.Ends.{file_done, file_part}
 use Rattle.ijtag_core.proofs.Acting.{file_stops}
@@ -25,7 +23,8 @@ returns-clause-part g c =
     let new = g.S.Shelf.files c.write_file.new.shelf in
     let same : c.bytes.result.now ≡ bytes = c.bytes.ensures ∙ c.in_ok-text.ensures in
     file_part (pictured_at (seen_picture_at c.args.self.now) (seen_accepted c.args.it.now)) old new
-    (g.O.Sink.taken c.args._out.now) name bytes (c.in_ok-holds.holds, c.in_ok-holds.ensures.held, refl)
+    (g.O.Sink.taken c.args._out.now) name bytes false
+    (c.in_ok-holds.holds, c.in_ok-holds.ensures.held, refl)
     (subst (λ (b : List ℕ). HoldsPart old new name b) same c.in-Err.ensures.part)
 
 pub returns-in-Ok-clause-done : goal.returns-in-Ok-clause-done
@@ -37,7 +36,8 @@ returns-in-Ok-clause-done g c =
     let new = g.S.Shelf.files c.write_file.new.shelf in
     let same : c.bytes.result.now ≡ bytes = c.bytes.ensures ∙ c.in_ok-text.ensures in
     file_done (pictured_at (seen_picture_at c.args.self.now) (seen_accepted c.args.it.now)) old new
-    (g.O.Sink.taken c.args._out.now) name bytes (c.in_ok-holds.holds, c.in_ok-holds.ensures.held, refl)
+    (g.O.Sink.taken c.args._out.now) name bytes false
+    (c.in_ok-holds.holds, c.in_ok-holds.ensures.held, refl)
     (subst (λ (b : List ℕ). file_at new name ≡ option_map (λ _. Some b) old) same c.in-Ok.ensures.whole)
 
 pub returns-clause-stop : goal.returns-clause-stop
@@ -46,10 +46,8 @@ returns-clause-stop g c =
     let it : SeenAccepted = seen_accepted c.args.it.now in
     let k : Counts = counts g.S.Shelf.load_faults g.S.Shelf.store_faults g.O.Sink.faults c.args.shelf.now
     c.write_file.new.shelf c.args._out.now c.args._out.now in
-    subst (λ (s : Stop). IsLateStop (pictured_at p it) (task_of (picture_at p)) k s)
-    (sym c.of_file.ensures.stop)
-    (file_stops (pictured_at p it) (task_of (picture_at p)) k p.new c.in-Err.fault
-    (λ failed. (
+    file_stops (pictured_at p it) (task_of (picture_at p)) k p.new c.in-Err.fault
+    c.of_file.ensures.stop (λ failed. (
       filed p.new (drawing_of p.format it c.in_ok-holds.holds),
       (c.in_ok-holds.holds, c.in_ok-holds.ensures.held, refl),
-    )) (inl refl) c.in-Err.ensures.cause.failed)
+    )) (inl refl) c.in-Err.ensures.cause.failed

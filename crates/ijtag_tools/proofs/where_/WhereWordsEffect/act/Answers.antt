@@ -1,12 +1,9 @@
-use Rattle.std.proofs.Common.{◌≡◌, ◌∙◌, refl, sym, subst, ℕ, Bool, List, Option}
+use Rattle.std.proofs.Common.{◌≡◌, ◌∙◌, refl, subst, ℕ, Bool, List, Option}
 use Rattle.ij_io.specs.Bytes.{Adds, AddsPart}
-use Rattle.ij_io.specs.Files.{Files}
 use Rattle.ijtag_work.specs.Accepted.{SeenAccepted}
-use Rattle.ijtag_work.specs.Late.{IsLateStop}
 use Rattle.ijtag_work.specs.Order.{told}
 use Rattle.ijtag_work.specs.Runs.{Counts, counts}
 use Rattle.ijtag_work.specs.Seen.{differing}
-use Rattle.ijtag_work.specs.Stops.{Stop}
 use Rattle.ijtag_work.specs.Task.{task_of}
 use Rattle.ijtag_work.specs.Using.{seen_accepted}
 use Rattle.ijtag_work.proofs.Ends.{told_done, told_part}
@@ -36,11 +33,10 @@ returns-clause-stop g c =
     let differs : Bool = differing c.in_ok-place.place.verdict in
     let k : Counts = counts g.S.Shelf.load_faults g.S.Shelf.store_faults g.O.Sink.faults c.args._shelf.now
     c.args._shelf.now c.args.out.now c.write.new.self in
-    subst (λ (s : Stop). IsLateStop (looked_up scan bit it)
-    (task_of (look_up (seen_where c.args.self.now))) k s) (sym c.of_output.ensures.stop)
-    (output_stops (looked_up scan bit it) (task_of (look_up (seen_where c.args.self.now))) k c.in-Err.fault
+    output_stops (looked_up scan bit it) (task_of (look_up (seen_where c.args.self.now))) k c.in-Err.fault
+    c.of_output.ensures.stop
     (λ failed. (told (place_line scan bit it) differs, (differs, c.in_ok-place.ensures.answer, refl)))
-    refl c.in-Err.ensures.cause.failed)
+    refl c.in-Err.ensures.cause.failed
 
 pub returns-clause-part : goal.returns-clause-part
 returns-clause-part g c =
