@@ -138,7 +138,7 @@ same_bits (suc (suc x)) y a b e = absurd (omega arith)
 same_bits zero (suc (suc y)) a b e = absurd (omega arith)
 same_bits (suc zero) (suc (suc y)) a b e = absurd (omega arith)
 
-is_one : (y : ℕ) → (y == 1) ≡ true → y ≡ 1
+pub is_one : (y : ℕ) → (y == 1) ≡ true → y ≡ 1
 is_one y h = grind (arith, nat_tests)
 
 mixed_bit : (v x c k : ℕ)

@@ -3,7 +3,7 @@ use Rattle.std.proofs.Common.{◌≡◌, ◌⊎◌, inl, inr, ℕ, suc, ◌+◌,
 use Rattle.std.proofs.Common.{cond, refl, sym, ⊎_elim, arith}
 use Rattle.std.specs.Prelude.{◌==◌, ◌&&◌, ◌||◌, is_some}
 use Rattle.std.proofs.lemmas.Bool.{eqb-true, eq-eqb, cases_lt}
-use Rattle.std.proofs.lemmas.Bool.Decides.{eqb_tells}
+use Rattle.std.proofs.lemmas.Bool.Decides.{eqb_tells, nat_tests}
 
 pub not_both : (b : Bool) → b ≡ true → b ≡ false → ⊥
 not_both true h k = absurd cc
@@ -38,6 +38,9 @@ or_four false false c d = refl
 
 pub number_self : (n : ℕ) → (n == n) ≡ true
 number_self n = ⊎_elim (λ e. e.0) (λ e. absurd (e.1 refl)) (eqb_tells n n)
+
+pub next_not_zero : (n : ℕ) → (suc n == 0) ≡ false
+next_not_zero n = grind (arith, nat_tests)
 
 pub number_turned : (a b : ℕ) → (a == b) ≡ (b == a)
 number_turned a b = by_tests (a == b) (b == a) refl refl

@@ -139,10 +139,20 @@ impl<T: Follow> Runs<T> {
     }
 
     /// The number of the run that may have a position: it is looked at before it is believed.
+    ///
+    /// Where no value follows another, each run has the number of its value.
     fn guess(&self, i: usize) -> usize {
+        if let Some(run) = self.before.get(i) {
+            if run.start as usize == i {
+                return i;
+            }
+        }
         let mut low = 0usize;
         let mut high = self.before.len();
         for _turn in 0..u32::BITS {
+            if high.saturating_sub(low) <= 1 {
+                return low;
+            }
             let mid = low.saturating_add(high.saturating_sub(low) / 2);
             match self.before.get(mid) {
                 Some(run) => {

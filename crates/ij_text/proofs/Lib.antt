@@ -1,6 +1,7 @@
 pub mod Numbering
 pub mod Numbers
 pub mod Widths
+pub mod Parts
 pub mod After
 pub mod OpenDigits
 pub mod EqualTexts

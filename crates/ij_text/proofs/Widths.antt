@@ -3,18 +3,24 @@ use Rattle.std.proofs.Common.{◌≡◌, ◌↔◌, ◌+◌, ◌-◌, ◌*◌, �
 use Rattle.std.proofs.Common.{true, false, not, cond, nat_eq, IsTrue, List, [], ◌∷◌, ◌++◌, length, get_or}
 use Rattle.std.proofs.Common.{Option, Some, None, min, refl, sym, ap, ◌∙◌, arith, inl, inr, append_assoc}
 use Rattle.std.proofs.Common.{append-nil}
-use Rattle.std.proofs.Math.Nat.{le-div_iff_mul-le, div-one, div-div-eq-div-mul, pow-succ'}
+use Rattle.std.proofs.Math.Nat.{le-div_iff_mul-le}
 use Rattle.std.proofs.Math.Pow.{pow_mono}
+use Rattle.std.specs.Prelude.{decimal}
+use Rattle.std.proofs.lemmas.Fmt.{length-decimal-le}
 use Rattle.std.proofs.lemmas.Nat.{pow_pos}
 use Rattle.std.proofs.lemmas.Bool.Decides.{nat_tests}
 use Rattle.std.proofs.lemmas.Bool.{cases_lt}
 use Rattle.std.proofs.lemmas.List.{ext_get_or}
 use Rattle.ij_bits.specs.BitLists.{bits_of}
+use Rattle.ij_bits.proofs.Exchanging.{bits_of-append}
 use Rattle.ij_bits.proofs.WordBits.{get_or-bits_of, length-bits_of}
 use Rattle.ij_text.specs.Numbers.{open_bits}
 use Rattle.ij_bits.proofs.Joining.{inside}
 
 -- ---- decimals
+
+pub four_digits : (n : ℕ) → n < 10000 → length (decimal n) ≤ 4
+four_digits n few = length-decimal-le 4 n (omega arith) (omega (arith, few)) (omega (arith, few))
 
 some_test : (q : ℕ) → IsTrue (not (nat_eq q 0)) → 1 ≤ q
 some_test q h = grind (arith, nat_tests)
@@ -32,17 +38,6 @@ shifted n w =
 
 pub beyond : (n w : ℕ) → n < 2 ^ 128 → 128 ≤ w → 2 ^ w ≤ n → ⊥
 beyond n w short le h = let k : 2 ^ 128 ≤ 2 ^ w = pow_mono le in omega (arith, short, h, k)
-
--- the bits of a number are the lower ones and the others
-bits_split : (a b n : ℕ) → bits_of (a + b) n ≡ bits_of a n ++ bits_of b (n / 2 ^ a)
-bits_split zero b n =
-    let all : 0 + b ≡ b = omega arith in ap (λ k. bits_of k n) all ∙ ap (bits_of b) (sym (div-one n))
-bits_split (suc a) b n =
-    let next : suc a + b ≡ suc (a + b) = omega arith in
-    let rest : n / 2 / 2 ^ a ≡ n / 2 ^ suc a =
-    div-div-eq-div-mul n 2 (2 ^ a) ∙ ap (λ m. n / m) (sym (pow-succ' 2 a)) in
-    ap (λ k. bits_of k n) next ∙ ap (λ (l : List Bool). ((n % 2) == 1) ∷ l)
-    (bits_split a b (n / 2) ∙ ap (λ x. bits_of a (n / 2) ++ bits_of b x) rest)
 
 bits_low : (k x : ℕ) → k ≤ 64 → bits_of k (x % 18446744073709551616) ≡ bits_of k x
 bits_low k x few =
@@ -70,7 +65,7 @@ word_more bits w m b x all size left h =
           let word : 64 ≡ m = omega arith in
           let whole : m + b ≡ w = omega arith in
           ap (λ k. bits_of m x ++ bits_of b (x / 2 ^ k)) word
-          ∙ sym (bits_split m b x) ∙ ap (λ k. bits_of k x) whole
+          ∙ sym (bits_of-append m b x) ∙ ap (λ k. bits_of k x) whole
     ] in
     append_assoc bits (bits_of m (x % 18446744073709551616)) (bits_of b rest)
     ∙ ap (λ (l : List Bool). bits ++ l) both ∙ h

@@ -33,7 +33,7 @@ says rows (b ∷ []) k e =
     }
 says rows (b ∷ c ∷ bs) k e = absurd (let none : None ≡ Some k = e in cc)
 
-some_mux : (ms : List Mux) (m : ℕ) → m < length ms → Mux
+pub some_mux : (ms : List Mux) (m : ℕ) → m < length ms → Mux
 some_mux [] m l = absurd (omega (arith, l))
 some_mux (x ∷ ms) m l = x
 

@@ -50,6 +50,10 @@ bits_from r k (suc n) = record { reg = r; pos = k } ∷ bits_from r (suc k) n
 abbrev pub thing_of : Net → ℕ → ℕ
 thing_of net r = get_or (map (λ reg. reg.thing) net.regs.items) r 0
 
+-- the node of an instrument
+abbrev pub node_of : Net → ℕ → ℕ
+node_of net inst = get_or (map (λ i. i.node) net.insts.items) inst 0
+
 -- the bits of a thing, none for one that isn't there
 abbrev pub bits_of_thing : Net → ℕ → List Spot
 bits_of_thing net t = get_or (map (λ thing. thing.bits.items) net.things.items) t []

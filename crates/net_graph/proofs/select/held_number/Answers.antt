@@ -3,7 +3,8 @@ use Rattle.std.proofs.Common.{sym, arith}
 use Rattle.std.proofs.lemmas.List.{length-map, get_or-map}
 use Rattle.ij_bits.specs.BitLists.{bits_of, number_of}
 use Rattle.net_graph.specs.Signals.{hold_at}
-use Rattle.net_graph.proofs.Lists.{rest_small, bits_again, bit_below, byte_small}
+use Rattle.net_graph.proofs.Lists.{rest_small, bit_below, byte_small}
+use Rattle.ij_bits.proofs.Hex.{bits_of-number_of}
 use Rattle.net_graph.proofs.select.held_number.Goals as goal
 
 pub overflow_mul-number : goal.overflow_mul-number
@@ -34,7 +35,7 @@ returns c =
     let start : c.loop-i.i ≡ 0 = omega arith in
     ap (bits_of (length select)) (c.loop-i.invariant ∙ ap (λ k. number_of (drop k bits)) start)
     ∙ ap (λ k. bits_of k (number_of bits))
-    (sym (length-map select (hold_at c.args.holds.now))) ∙ bits_again bits
+    (sym (length-map select (hold_at c.args.holds.now))) ∙ bits_of-number_of bits
 
 pub loop-i-preserved : goal.loop-i-preserved
 loop-i-preserved c =
