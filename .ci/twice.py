@@ -50,18 +50,8 @@ def twice(found, least):
     return [(at, text) for text, at in places.items() if len({crate for crate, _ in at}) > 1]
 
 
-# private ones of a crate that nearly all others depend on: shared when that crate changes next
-LATER = {('mux_test', 'no_line_end'), ('mux_test', 'in_names'), ('mux_test', 'name_on_line'), ('path_planner', 'row_from_ge'),
-         ('mux_test', 'is_entry'), ('mux_test', 'row_point_there'), ('mux_test', 'path_bits'), ('mux_test', 'each-length'),
-         ('report', 'node_of'), ('report', 'thing_of'), ('net_graph', 'row_source'), ('net_list', 'mux_count'), ('least_clocks', 'is_on'),
-         ('net_graph', 'length-shift'), ('net_graph', 'some_mux'), ('svf_notes', 'on_both'), ('svf_notes', 'four_digits'), ('svf_notes', 'split_first'), ('svf_notes', 'split_last'),
-         ('net_wave', 'first'), ('net_wave', 'is_itself'), ('net_wave', 'not_tck'), ('net_wave', 'words_narrow'),
-         ('tap_machine', 'digit_le'), ('tap_machine', 'half_is'), ('tap_machine', 'bits_of-number_of'), ('tap_machine', 'bits_of_none'),
-         ('net_bench', 'same_self'), ('net_bench', 'is_one'), ('ij_text', 'bits_split'), ('ijtag_work', 'adds_as'), ('ijtag_work', 'part_as')}
-
-
 def main():
-    rows = [it for it in twice(functions(), 60) + twice(lemmas(), 24) if not LATER.intersection(it[0])]
+    rows = twice(functions(), 60) + twice(lemmas(), 24)
     for places, text in rows:
         print(", ".join(f"{crate}: {name}" for crate, name in places), "|", text[:120])
     print(f"twice: {len(rows)} found")

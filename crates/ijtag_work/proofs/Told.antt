@@ -13,13 +13,6 @@ adds_all {old} {new} {text} adds = record {
       ∙ ap (λ (t : List ℕ). option_map (λ (bytes : List ℕ). bytes ++ t) old) (sym (take-length text));
 }
 
--- an equal text is told
-pub adds_as : {old new : Option (List ℕ)} {a b : List ℕ} → a ≡ b → Adds old new a → Adds old new b
-adds_as {old} {new} {a} {b} same adds = subst (λ (text : List ℕ). Adds old new text) same adds
-
-pub part_as : {old new : Option (List ℕ)} {a b : List ℕ} → a ≡ b → AddsPart old new a → AddsPart old new b
-part_as {old} {new} {a} {b} same part = subst (λ (text : List ℕ). AddsPart old new text) same part
-
 pub told_part : {T E : Type 0} {old new : Option (List ℕ)} {text : List ℕ} (result : Result T E)
     → OnOk result (Adds old new text) → OnErr result (AddsPart old new text) → AddsPart old new text
 told_part (Ok x) whole part = adds_all whole

@@ -12,7 +12,7 @@ ghost use Rattle.least_clocks.specs.Least as least;
 
 use crate::work::has_value;
 use ij_bits::{Buffer, List, OutOfMemory};
-use net_graph::{Group, Holds, Net, ReadBit, WriteBit, find_path};
+use net_graph::{Group, Holds, Net, ReadBit, WriteBit, find_path, is_in};
 use std::alloc::Global;
 
 /// The active path at power-up.
@@ -42,18 +42,6 @@ fn bits_along(net: &Net, path: &[u32]) -> u64
     bits
 }
 
-/// Whether a register is on a path.
-fn is_on(path: &[u32], reg: u32) -> bool
-    ensures { result ≡ paths.is_in path.now reg }
-{
-    for other in path {
-        if *other == reg {
-            return true;
-        }
-    }
-    false
-}
-
 /// Whether the registers of which a bit changes are on a path.
 fn changed_are_on(path: &[u32], holds: &Holds, writes: &[WriteBit]) -> bool
     requires { All (λ w. IsHeld holds.now w.bit) writes.now }
@@ -61,7 +49,7 @@ fn changed_are_on(path: &[u32], holds: &Holds, writes: &[WriteBit]) -> bool
         (map (λ w. w.bit.reg) (filter (λ w. not (working.has_value holds.now w)) writes.now)) }
 {
     for write in writes {
-        if !has_value(holds, *write) && !is_on(path, write.bit.reg) {
+        if !has_value(holds, *write) && !is_in(path, write.bit.reg) {
             return false;
         }
     }
@@ -73,7 +61,7 @@ fn read_are_on(path: &[u32], reads: &[ReadBit]) -> bool
     ensures { result ≡ list_all (paths.is_in path.now) (map (λ r. r.bit.reg) reads.now) }
 {
     for read in reads {
-        if !is_on(path, read.bit.reg) {
+        if !is_in(path, read.bit.reg) {
             return false;
         }
     }

@@ -42,6 +42,7 @@ use Rattle.mux_test.specs.Planned.{last_planned, planned_flushes, row_planned, s
 use Rattle.mux_test.specs.Test.{branches, scanned, tested_from}
 use Rattle.mux_test.proofs.Testing.{all_branches}
 use Rattle.scan_packer.proofs.Held.{plan_held}
+use Rattle.path_planner.proofs.RowScans.{each_length}
 
 -- ---- more scans after some
 
@@ -102,10 +103,6 @@ pub row-length : (b : Branch) (first : Bool) (ps : List SeenGroup)
     → length (row_planned b first ps) ≡ length ps
 row-length b first [] = refl
 row-length b first (p ∷ ps) = ap suc (row-length b false ps)
-
-each-length : (h : Holds) (ps : List SeenGroup) → length (holds_after_each h ps) ≡ length ps
-each-length h [] = refl
-each-length h (p ∷ ps) = ap suc (each-length (write_all h p.writes) ps)
 
 after-length : (h : Holds) (xs : List SeenPlanned) → length (holds_after h xs) ≡ length xs
 after-length h [] = refl
@@ -237,7 +234,7 @@ module _ (net : Net) (form : Items) where
           all,
           length-append hs rest,
           ap length p.lead,
-          each-length holds ps,
+          each_length holds ps,
           after-length (start_holds net) scans,
         )
 

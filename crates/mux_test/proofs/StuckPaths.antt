@@ -24,7 +24,7 @@ use Rattle.net_graph.specs.Signals.{Holds, row_point, some_matches}
 use Rattle.net_graph.specs.Stuck.{trace_by, row_source, stuck_source}
 use Rattle.net_graph.specs.Tracing.{registers_at}
 use Rattle.net_graph.proofs.Routes.{route_is}
-use Rattle.net_graph.proofs.Stuck.{stuck_route_is, trace_is_by}
+use Rattle.net_graph.proofs.Stuck.{stuck_route_is, trace_is_by, row_point_is}
 use Rattle.net_graph.proofs.Tracing.{before_is_point, mux_points, route_fits}
 use Rattle.path_planner.specs.Planning.{IsBranchOf}
 use Rattle.mux_test.specs.Steps.{before, route_where, source_of}
@@ -114,14 +114,6 @@ stuck_elsewhere net b holds m n = on (m == b.mux) (λ t. n (eqb-true m b.mux t))
 
 -- ---- what is met next is there
 
-row_point_there : (net : Net) (rs : List Row) (q : ℕ) (p : Point) → All (λ r. IsPointOf net r.from) rs
-    → slice_get (map (λ r. r.from) rs) q ≡ Some p → IsPointOf net p
-row_point_there net [] q p a e = absurd (none-some p e)
-row_point_there net (r ∷ rs) zero p a e =
-    subst (IsPointOf net) (same_Some r.from p e) (All-head (λ (r : Row). IsPointOf net r.from) r rs a)
-row_point_there net (r ∷ rs) (suc q) p a e =
-    row_point_there net rs q p (All-tail (λ (r : Row). IsPointOf net r.from) r rs a) e
-
 pub before_there : (net : Net) (stuck : Option Branch) (holds : Holds) (p q : Point) → IsNet net
     → IsPointOf net p → before net (source_of net stuck holds) p ≡ Some q → IsPointOf net q
 before_there net stuck holds Entry q w i e = before_is_point net holds Entry q w i e
@@ -133,7 +125,7 @@ before_there net (Some b) holds (FromMux m) q w i e = on (m == b.mux) e
       | true ↦ row_source net b
       | false ↦ mux_source net holds m
     ] ≡ Some q → IsPointOf net q
-    on true f = row_point_there net (rows_of net b.mux) b.row q
+    on true f = row_point_is net (rows_of net b.mux) b.row q
         (mux_points net net.muxes.items b.mux w.muxes) f
     on false f = before_is_point net holds (FromMux m) q w i f
 

@@ -60,19 +60,6 @@ pub(crate) struct Judge {
     pub detour: Detour,
 }
 
-/// How many bits the registers of a path have. Takes no memory.
-fn path_bits(holds: &Holds, path: &[u32]) -> u32
-    requires route { IsRoute (length holds.now) path.now }
-    requires few { length (chain path.now holds.now) ≤ 4096 }
-    ensures { result ≡ length (chain path.now holds.now) }
-{
-    let mut bits = 0;
-    for i in 0..path.len() {
-        bits += holds.register(path[i]).len();
-    }
-    bits
-}
-
 /// Whether two paths have the same registers. Takes no memory.
 fn same_path(a: &[u32], b: &[u32]) -> bool
     ensures { result ≡ same_registers a.now b.now }
@@ -90,7 +77,7 @@ fn verdict_of(holds: &Holds, own: &[u32], other: &[u32]) -> Verdict
 {
     if same_path(own, other) {
         Verdict::Open
-    } else if path_bits(holds, own) == path_bits(holds, other) {
+    } else if holds.path_bits(own) == holds.path_bits(other) {
         Verdict::Unseen
     } else {
         Verdict::Seen

@@ -13,7 +13,7 @@ ghost use Rattle.mux_test.specs.KnownRows.{AreKnown};
 
 use crate::known::KnownRows;
 use ij_bits::Buffer;
-use net_graph::{Branch, Holds, Net, Point};
+use net_graph::{Branch, Holds, Net, Point, is_entry};
 use net_tree::same_point;
 
 /// What a row of a mux passes on.
@@ -102,13 +102,6 @@ pub(crate) fn push_met_register(at: Point, count: usize, into: &mut Buffer<u32>)
         into.push_reserved(reg);
     }
     true
-}
-
-/// Whether a point is the network's scan-in.
-fn is_entry(at: Point) -> bool
-    ensures { IsTrue result ↔ (at ≡ point.Entry) }
-{
-    matches!(at, Point::Entry)
 }
 
 /// Leaves the registers of the active path in a list, nearest scan-out first, also where a mux is stuck in a

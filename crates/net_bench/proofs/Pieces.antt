@@ -30,6 +30,8 @@ use Rattle.net_bench.specs.Pieces.{pin_compares, tdos}
 use Rattle.net_bench.specs.Playing.{Compare, after_pins, compare_of, compares, differing}
 use Rattle.net_bench.proofs.Differing.{get_after}
 use Rattle.net_bench.proofs.Scans.{during, shift_step, shift_tdo}
+use Rattle.ij_bits.proofs.SameBits.{same_self}
+use Rattle.ij_bits.proofs.Marking.{is_one}
 
 module _ {L : Type 0} (chip : Chip L) where
   -- what pins compare is what was found in their clocks
@@ -115,10 +117,6 @@ not_true false h = absurd cc
 pub not_zero : (x : ℕ) → IsFalse (not (nat_eq x 0)) → x ≡ 0
 not_zero x h = let zero_is : nat_eq x 0 ≡ true = not_true (nat_eq x 0) h in grind (arith, nat_tests, zero_is)
 
-same_self : (b : Bool) → same_bit b b ≡ true
-same_self true = refl
-same_self false = refl
-
 -- what is found is what is expected, at one clock and before others
 one_agrees : (scan k : ℕ) (f : Bool) (o : Option Bool) (rest : List Compare)
     → ((e : Bool) → o ≡ Some e → e ≡ f) → differing rest ≡ [] → differing (compare_of o scan k f ++ rest) ≡ []
@@ -146,9 +144,6 @@ agree_at found expected compared k none one =
     sym (bit_at_and (bit_xor found expected) compared k ∙ ap (λ b. min b (bit_at compared k))
     (bit_at_xor found expected k)) ∙ ap (λ z. bit_at z k) none ∙ bit_at-zero k in
     omega (arith, zero_bit, one, bit_at-lt found k, bit_at-lt expected k)
-
-is_one : (y : ℕ) → (y == 1) ≡ true → y ≡ 1
-is_one y h = grind (arith, nat_tests)
 
 pub none_differ : (p : Piece) (found : ℕ) → bit_and (bit_xor found p.expected) p.compared ≡ 0
     → differing (pin_compares (piece_pins p) (bits_of p.count found)) ≡ []

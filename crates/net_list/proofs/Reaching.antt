@@ -34,7 +34,7 @@ use Rattle.path_planner.proofs.Inside.{around, reg_item, mux_place, path_open, o
 use Rattle.path_planner.proofs.Opening.{IsPlaced, IsAfter, after_itself, after_next, next_listed}
 use Rattle.path_planner.proofs.Places.{one_branch, AreIn}
 use Rattle.path_planner.proofs.RowOpening.{needed, opens_row}
-use Rattle.path_planner.proofs.RowScans.{brought, scans_are, unseen_listed}
+use Rattle.path_planner.proofs.RowScans.{brought, scans_are, unseen_listed, each_length}
 use Rattle.path_planner.proofs.Rows.{in_row, row_in}
 use Rattle.path_planner.proofs.Starting.{start_scannable}
 use Rattle.path_planner.proofs.Step.{IsNeeded, has_path}
@@ -220,10 +220,6 @@ innermost net form r row place k d l is count last =
         let same : o.row ≡ row = sym (last ∙ ap (λ (xs : List Branch). get_or xs k row) cut
         ∙ last_is (place_of form (FromMux o.row.mux)) o.row row k at) in
         subst (IsInnermost net form r) same (record { there = o.there; needs = o.needs })
-
-each_length : (h : Holds) (ps : List SeenGroup) → length (holds_after_each h ps) ≡ length ps
-each_length h [] = refl
-each_length h (p ∷ ps) = ap suc (each_length (write_all h p.writes) ps)
 
 pub can_plan : (net : Net) (form : Items) (r : ℕ) (row : Branch) (h : Holds) → IsNet net → Describes net form
     → IsLawful net form → h ≡ start_holds net → IsInnermost net form r row → CanOpenRow net form row h

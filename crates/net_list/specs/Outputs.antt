@@ -4,14 +4,11 @@ use Rattle.std.specs.Prelude.{ℕ, ◌==◌, ◌&&◌, Bool, cond, List, [], ◌
 use Rattle.std.specs.Str.{bytes_eq}
 use Rattle.net_graph.specs.declared.net.Net.{Net}
 use Rattle.net_graph.specs.declared.net.Thing.{Thing}
-use Rattle.net_graph.specs.Named.{output_widths}
+use Rattle.net_graph.specs.Named.{node_of, output_widths}
 use Rattle.net_graph.specs.PathNames.{instance_path}
 use Rattle.net_list.specs.Drivers.{index_between}
 
--- an instrument's node, and the name of one of its outputs
-abbrev pub node_of : Net → ℕ → ℕ
-node_of net i = get_or (map (λ inst. inst.node) net.insts.items) i 0
-
+-- the name of an output of an instrument
 abbrev pub port_name : Net → ℕ → ℕ → List ℕ
 port_name net i p =
     get_or (get_or (map (λ inst. map (λ port. port.name.items) inst.outs.items) net.insts.items) i []) p []

@@ -11,7 +11,7 @@ ghost use Rattle.net_list.specs.Listing.{lines_from};
 use crate::drivers::put_drivers;
 use crate::format::{ListFormat, put_count, put_text_or_json, text_or_json};
 use ij_io::{Sink, StoreFault};
-use net_graph::{Net, PortIn, PortOut};
+use net_graph::{Net, PortIn, PortOut, node_of};
 use path_names::{put_instance_path, put_name};
 
 /// Writes a data input and what drives it, after something before it.
@@ -147,16 +147,6 @@ fn put_ports<K: Sink>(format: ListFormat, net: &Net, inst: u32, k: &mut K) -> Re
 {
     let it = net.insts.get(inst as usize);
     put_port_lists(format, net, it.ins.as_slice(), it.outs.as_slice(), k)
-}
-
-/// The node of an instrument.
-fn node_of(net: &Net, inst: u32) -> u32
-    requires well_formed { IsNet net.now }
-    requires there { inst < length net.now.insts.items }
-    ensures node { result ≡ get_or (map (λ i. i.node) net.now.insts.items) inst 0 }
-    ensures there { result < length net.now.nodes.items }
-{
-    net.insts.get(inst as usize).node
 }
 
 /// Writes the path of an instrument.

@@ -17,7 +17,7 @@ mod values;
 mod whole;
 
 pub use format::ListFormat;
-pub use mux::{mux_count, put_rows, put_selects};
+pub use mux::{put_rows, put_selects};
 pub use names::{index_of, put_bit_name, put_register_path};
 pub use outputs::{output_index, put_output};
 pub use register::{muxes_selected_by, put_reset, put_selected, put_width};

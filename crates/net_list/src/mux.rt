@@ -13,7 +13,7 @@ use crate::format::{ListFormat, put_count, put_text_or_json, text_or_json};
 use crate::names::put_bit_name;
 use crate::values::put_values;
 use ij_io::{Sink, StoreFault};
-use net_graph::{BitId, Net, Row};
+use net_graph::{BitId, Net, Row, mux_count};
 use net_tree::Tree;
 use path_names::put_mux_path;
 
@@ -261,14 +261,6 @@ fn put_mux<K: Sink>(
 {
     let depth = tree.place_of_mux(mux).len();
     put_mux_line(format, net, mux, depth, k)
-}
-
-/// How many muxes there are. Takes no memory.
-pub fn mux_count(net: &Net) -> u32
-    requires { IsNet net.now }
-    ensures { result ≡ length net.now.muxes.items }
-{
-    net.muxes.len() as u32
 }
 
 /// Writes the line of each mux.

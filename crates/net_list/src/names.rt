@@ -10,18 +10,8 @@ ghost use Rattle.net_list.specs.Lines.{quoted};
 
 use crate::format::{ListFormat, put_text_or_json};
 use ij_io::{Sink, StoreFault, put_decimal};
-use net_graph::{BitId, Net};
+use net_graph::{BitId, Net, thing_of};
 use path_names::{put_mux_path, put_thing_path};
-
-/// The thing that a register is.
-fn thing_of(net: &Net, reg: u32) -> u32
-    requires well_formed { IsNet net.now }
-    requires there { reg < length net.now.regs.items }
-    ensures thing { result ≡ named.thing_of net.now reg }
-    ensures there { result < length net.now.things.items }
-{
-    net.regs.get(reg as usize).thing
-}
 
 /// The left index of a thing.
 fn left_of(net: &Net, thing: u32) -> u32

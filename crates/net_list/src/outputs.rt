@@ -9,18 +9,8 @@ ghost use Rattle.net_list.specs.Outputs as outputs;
 
 use crate::names::index_between;
 use ij_io::{Sink, StoreFault};
-use net_graph::{Net, Thing};
+use net_graph::{Net, Thing, node_of};
 use path_names::put_instance_path;
-
-/// The node of an instrument.
-fn node_of(net: &Net, inst: u32) -> u32
-    requires well_formed { IsNet net.now }
-    requires there { inst < length net.now.insts.items }
-    ensures node { result ≡ outputs.node_of net.now inst }
-    ensures there { result < length net.now.nodes.items }
-{
-    net.insts.get(inst as usize).node
-}
 
 /// The name of an output.
 fn port_name(net: &Net, inst: u32, port: u32) -> &[u8]

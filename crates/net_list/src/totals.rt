@@ -8,10 +8,9 @@ ghost use Rattle.net_list.specs.Listing as listing;
 
 use crate::format::{ListFormat, put_count, put_text_or_json};
 use crate::instrument::inst_count;
-use crate::mux::mux_count;
 use ij_bits::{Buffer, OutOfMemory};
 use ij_io::{Sink, StoreFault};
-use net_graph::{Holds, Net, find_path, register_count};
+use net_graph::{Holds, Net, find_path, mux_count, register_count};
 use std::alloc::Global;
 
 /// How many bits the registers of a network have.
@@ -26,19 +25,6 @@ fn bit_count(net: &Net) -> u32
     bits
 }
 
-/// How many bits the registers of a path have.
-fn path_bits(holds: &Holds, path: &[u32]) -> u32
-    requires route { IsRoute (length holds.now) path.now }
-    requires few { length (chain path.now holds.now) ≤ 4096 }
-    ensures { result ≡ length (chain path.now holds.now) }
-{
-    let mut bits = 0;
-    for i in 0..path.len() {
-        bits += holds.register(path[i]).len();
-    }
-    bits
-}
-
 /// How many bits the active path has at power-up.
 #[tactic(auto, using(net_graph::proofs::Widths::started_held))]
 fn start_path_bits(alloc: Global, net: &Net) -> Result<u32, OutOfMemory>
@@ -49,7 +35,7 @@ fn start_path_bits(alloc: Global, net: &Net) -> Result<u32, OutOfMemory>
     let mut path = Buffer::new(alloc);
     path.reserve(net.regs.len())?;
     find_path(net, &start, &mut path);
-    Ok(path_bits(&start, path.as_slice()))
+    Ok(start.path_bits(path.as_slice()))
 }
 
 /// Writes the line of totals, of these numbers.

@@ -27,6 +27,7 @@ use Rattle.net_picture.specs.Met.{register_at}
 use Rattle.net_picture.specs.Pens.{start_at, next_wire_start, after_register, after_row, fan_at}
 use Rattle.net_picture.specs.Plan.{Plan, box_of, mux_of, mux_plan, plan_of}
 use Rattle.net_picture.proofs.Gathering.{IsOfThings, picked_register, picked_mux, picked_row, picked_both}
+use Rattle.net_graph.proofs.Selecting.{row_from_ge}
 
 -- the register or multiplexer of a box or funnel in colour
 abbrev pub point_of_shape : Shape → List Point
@@ -71,16 +72,11 @@ least_of true k rs bits q later e =
     omega (arith, same)
 least_of false k rs bits q later e = omega (arith, later e)
 
-row_from_least : (k : ℕ) (rs : List Row) (bits : List Bool) (q : ℕ) → row_from k rs bits ≡ Some q → k ≤ q
-row_from_least k [] bits q e = absurd (none-some q e)
-row_from_least k (r ∷ rs) bits q e =
-    least_of (some_matches r.values.items bits) k rs bits q (λ h. row_from_least (suc k) rs bits q h) e
-
 pub later_row : (k : ℕ) (rs : List Row) (bits : List Bool) (o : Option ℕ)
     → o ≡ row_from (suc k) rs bits → is_selected_row o k ≡ false
 later_row k rs bits None e = refl
 later_row k rs bits (Some q) e =
-    let after : suc k ≤ q = row_from_least (suc k) rs bits q (sym e) in
+    let after : suc k ≤ q = row_from_ge (suc k) rs bits q (sym e) in
     ne_eqb q k (λ same. omega (arith, after, same))
 
 module _ (plan : Plan) where

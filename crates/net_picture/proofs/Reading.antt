@@ -24,6 +24,7 @@ use Rattle.net_picture.specs.ReadGraph.{attribute_by, alone, attributes, attribu
 use Rattle.net_picture.specs.ReadGraph.{colour_in, link_in, node_said, edge_said, keyword_said, thing_said}
 use Rattle.net_picture.specs.ReadGraph.{is_keyword, words_said, found_or, line_said, read_graph}
 use Rattle.net_picture.specs.Said.{Colour, Plain, Said, HasNode, HasEdge, Comment, edge_colour}
+use Rattle.ij_text.proofs.Parts.{Without, split_none, split_off}
 
 -- ---- bytes that are no line feed (10), blank (32), quote (34) or backslash (92)
 
@@ -32,9 +33,6 @@ IsPlainByte b = (34 < b) × ((b == 92) ≡ false)
 
 abbrev pub IsPlain : List ℕ → Type 0
 IsPlain bytes = AllByRecursion IsPlainByte bytes
-
-abbrev pub Without : ℕ → List ℕ → Type 0
-Without at bytes = AllByRecursion (λ b. (b == at) ≡ false) bytes
 
 pub without : (at : ℕ) (bytes : List ℕ) → at ≤ 34 → IsPlain bytes → Without at bytes
 without at [] low plain = tt
@@ -138,18 +136,6 @@ name_plain (b ∷ bs) h =
     begins false l e = absurd (cc)
 
 -- ---- parts of texts
-
-pub split_off : (at : ℕ) (xs ys : List ℕ) → Without at xs → split at (xs ++ at ∷ ys) ≡ xs ∷ split at ys
-split_off at [] ys free = ap (λ k. cond k ([] ∷ split at ys) (before at (split at ys))) (number_self at)
-split_off at (x ∷ xs) ys free =
-    ap (λ k. cond k ([] ∷ split at (xs ++ at ∷ ys)) (before x (split at (xs ++ at ∷ ys)))) free.0
-    ∙ ap (before x) (split_off at xs ys free.1)
-
-pub split_none : (at : ℕ) (xs : List ℕ) → Without at xs → split at xs ≡ xs ∷ []
-split_none at [] free = refl
-split_none at (x ∷ xs) free =
-    ap (λ k. cond k ([] ∷ split at xs) (before x (split at xs))) free.0
-    ∙ ap (before x) (split_none at xs free.1)
 
 -- ---- lines
 

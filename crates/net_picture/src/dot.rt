@@ -18,8 +18,7 @@ use crate::met::{is_marked, is_on_path, met};
 use crate::plan::has_path;
 use crate::texts::short_values;
 use ij_io::{Sink, StoreFault, Word, put_words};
-use net_graph::{BitId, Holds, Net, Point, register_count, row_of};
-use net_list::mux_count;
+use net_graph::{BitId, Holds, Net, Point, mux_count, register_count, row_of};
 use std::alloc::Global;
 
 /// What is on the active path of a state, and what is marked.

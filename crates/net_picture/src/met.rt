@@ -9,8 +9,7 @@ ghost use Rattle.net_picture.specs.Met as mets;
 ghost use Rattle.net_picture.specs.Plan.{has_path};
 
 use ij_bits::{List, OutOfMemory};
-use net_graph::{Holds, Net, Point, Row, register_count, row_of};
-use net_list::mux_count;
+use net_graph::{Holds, Net, Point, Row, mux_count, register_count, row_of, source_at};
 use net_tree::same_point;
 use std::alloc::Global;
 
@@ -34,14 +33,6 @@ pub(crate) fn is_marked(marked: Option<Point>, point: Point) -> bool
         Some(other) => same_point(other, point),
         None => false,
     }
-}
-
-/// The source of a row.
-fn source_at(rows: &List<Row>, row: u32) -> Point
-    requires { row < length rows.now.items }
-    ensures { result ≡ slice_index_or (map (λ r. r.from) rows.now.items) row point.Entry }
-{
-    rows.get(row as usize).from
 }
 
 /// What a multiplexer passes on: the source of the row that it is in.

@@ -35,6 +35,7 @@ use Rattle.net_wave.specs.Vars.{register_item, register_items, register_node, re
 use Rattle.net_wave.specs.Vars.{vars_of, word_count, word_item}
 use Rattle.net_wave.proofs.Modelled.{drivers_few}
 use Rattle.net_wave.proofs.Wide.{wide_is}
+use Rattle.instruments.proofs.Outputs.{bits_within_limit}
 
 -- ---- widths
 
@@ -63,15 +64,9 @@ inst_narrow net [] i p h = omega arith
 inst_narrow net (x ∷ xs) zero p h = outs_narrow x.outs.items p (All-head (IsInst net) x xs h).outputs
 inst_narrow net (x ∷ xs) (suc i) p h = inst_narrow net xs i p (All-tail (IsInst net) x xs h)
 
-words_narrow : (words : List SeenWord) (w : ℕ) → All IsWord words
-    → get_or (map (λ word. word.width) words) w 0 ≤ 64
-words_narrow [] w h = omega arith
-words_narrow (x ∷ xs) zero h = (All-head IsWord x xs h).width.few
-words_narrow (x ∷ xs) (suc w) h = words_narrow xs w (All-tail IsWord x xs h)
-
 model_narrow : (models : List SeenModel) (i w : ℕ) → All IsModel models → word_width models i w ≤ 64
 model_narrow [] i w h = omega arith
-model_narrow (m ∷ ms) zero w h = words_narrow m.words w (All-head IsModel m ms h).words
+model_narrow (m ∷ ms) zero w h = bits_within_limit m.words w (All-head IsModel m ms h).words
 model_narrow (m ∷ ms) (suc i) w h = model_narrow ms i w (All-tail IsModel m ms h)
 
 module _ (net : Net) (device : Device) (models : List SeenModel) (is : IsNet net)

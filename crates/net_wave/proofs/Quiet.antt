@@ -12,6 +12,7 @@ use Rattle.net_wave.specs.declared.var.Var.TheVariants.{Word}
 use Rattle.net_wave.specs.Changes.{Stay, is_idle, is_shift, may_change, has_instrument_event}
 use Rattle.net_wave.specs.Changes.{changes_shift_stages, changes_update_stages}
 use Rattle.net_wave.specs.Header.{is_pin}
+use Rattle.ij_bits.proofs.Tests.{or_left_false}
 
 same_place : (vars : List Var) (k : ℕ) (d e : Var) → k < length vars → get_or vars k d ≡ get_or vars k e
 same_place [] k d e h = absurd (omega (arith, h))
@@ -41,10 +42,6 @@ next_place vars i place next d h few is rest = cases (is_pin (get_or vars i d)) 
         place_of k false e2 l m =
             let other : k ≡ i → ⊥ = λ q. grind (arith, nat_tests) in rest k l (omega (arith, m, other))
 
-first : (x y : Bool) → (x || y) ≡ false → x ≡ false
-first true y e = absurd (cc)
-first false y e = refl
-
 -- a variable of the chip
 quiet : (b n : Shown) (v : Var) → is_pin v ≡ false → has_instrument_event b.tap n.tap ≡ false
     → (is_shift v ≡ true → changes_shift_stages b.tap ≡ false) → may_change b n v ≡ false
@@ -57,10 +54,10 @@ quiet b n Tap pin run shift = absurd (cc)
 quiet b n Instruction pin run shift = absurd (cc)
 quiet b n Scan pin run shift = absurd (cc)
 quiet b n Bit pin run shift = absurd (cc)
-quiet b n (Update r) pin run shift = first (changes_update_stages n.tap) (is_idle b.tap && is_idle n.tap) run
+quiet b n (Update r) pin run shift = or_left_false (changes_update_stages n.tap) (is_idle b.tap && is_idle n.tap) run
 quiet b n (Shift r) pin run shift = shift refl
-quiet b n (OnPath r) pin run shift = first (changes_update_stages n.tap) (is_idle b.tap && is_idle n.tap) run
-quiet b n (Row m) pin run shift = first (changes_update_stages n.tap) (is_idle b.tap && is_idle n.tap) run
+quiet b n (OnPath r) pin run shift = or_left_false (changes_update_stages n.tap) (is_idle b.tap && is_idle n.tap) run
+quiet b n (Row m) pin run shift = or_left_false (changes_update_stages n.tap) (is_idle b.tap && is_idle n.tap) run
 quiet b n (Input i p) pin run shift = run
 quiet b n (Output i p) pin run shift = run
 quiet b n (Word i w) pin run shift = run

@@ -11,6 +11,7 @@ use Rattle.net_wave.specs.Moments.{Change, Moment, change_text, counted, digits_
 use Rattle.net_wave.specs.Moments.{trimmed}
 use Rattle.net_wave.specs.Reader.{Event, At, Told, Other, event, events, number_from, padded, put_first}
 use Rattle.net_wave.specs.Reader.{split, vector, words, zeros}
+use Rattle.ij_bits.proofs.Tests.{number_self}
 
 -- ---- bytes that aren't there
 
@@ -22,16 +23,13 @@ pub lacks_both : (b : ℕ) (xs ys : List ℕ) → Lacks b xs → Lacks b ys → 
 lacks_both b [] ys h g = g
 lacks_both b (x ∷ xs) ys h g = (h.0, lacks_both b xs ys h.1 g)
 
-is_itself : (b : ℕ) → (b == b) ≡ true
-is_itself b = grind (arith, nat_tests)
-
 pub above : (b x : ℕ) → b < x → (x == b) ≡ false
 above b x h = grind (arith, nat_tests)
 
 -- ---- splitting
 
 pub split_front : (b : ℕ) (l xs : List ℕ) → Lacks b l → split b (l ++ b ∷ xs) ≡ l ∷ split b xs
-split_front b [] xs h = ap (λ (t : Bool). cond t ([] ∷ split b xs) (put_first b (split b xs))) (is_itself b)
+split_front b [] xs h = ap (λ (t : Bool). cond t ([] ∷ split b xs) (put_first b (split b xs))) (number_self b)
 split_front b (x ∷ l) xs h =
     ap (λ (t : Bool). cond t ([] ∷ split b (l ++ b ∷ xs)) (put_first x (split b (l ++ b ∷ xs)))) h.0
     ∙ ap (put_first x) (split_front b l xs h.1)

@@ -19,6 +19,7 @@ use Rattle.net_wave.specs.Moments.{Change, Moment, change_at, changes, falling, 
 use Rattle.net_wave.specs.Moments.{rising, untold}
 use Rattle.net_wave.specs.Values.{value, values}
 use Rattle.net_wave.specs.Vars.{up_to}
+use Rattle.ij_bits.proofs.Tests.{next_not_zero}
 
 told_both : (n : ℕ) (d : List ℕ) (xs ys : List Change)
     → last_told n d (xs ++ ys) ≡ last_told n (last_told n d xs) ys
@@ -28,9 +29,6 @@ told_both n d (x ∷ xs) ys = told_both n (cond (x.number == n) x.digits d) xs y
 -- TCK is another variable
 pub tck_is_other : (i : ℕ) → (0 == suc i) ≡ false
 tck_is_other i = grind (arith, nat_tests)
-
-not_tck : (n : ℕ) → (suc n == 0) ≡ false
-not_tck n = grind (arith, nat_tests)
 
 -- the changes of variables say nothing of TCK
 pub tck_alone : (first : Bool) (before now : List (List ℕ)) (d : List ℕ) (n : ℕ)
@@ -43,7 +41,7 @@ tck_alone first before now d (suc n) =
   where
     cases : (b : Bool)
         → last_told 0 d (cond b (record { number = suc n; digits = get_or now n [] } ∷ []) []) ≡ d
-    cases true = ap (λ (t : Bool). cond t (get_or now n []) d) (not_tck n)
+    cases true = ap (λ (t : Bool). cond t (get_or now n []) d) (next_not_zero n)
     cases false = refl
 
 module _ (first : Bool) (before now : List (List ℕ)) (i : ℕ) where

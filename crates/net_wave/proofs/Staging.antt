@@ -25,10 +25,7 @@ use Rattle.tap_machine.specs.declared.TapState.TheVariants.{UpdateDr, UpdateIr}
 use Rattle.tap_machine.specs.Tap.{next}
 use Rattle.std.specs.Prelude.{◌&&◌}
 use Rattle.net_wave.specs.Changes.{changes_shift_stages}
-
-length_shift : (bits : List Bool) (tdi : Bool) → length (shift bits tdi) ≡ length bits
-length_shift [] tdi = refl
-length_shift (b ∷ bs) tdi = omega (arith, length-append bs (tdi ∷ []))
+use Rattle.net_graph.proofs.Exchange.{length-shift}
 
 module _ (net : Net) (device : Device) (machines : List Machine) (is : IsNet net) where
   abbrev chip : Chip Counts
@@ -68,7 +65,7 @@ module _ (net : Net) (device : Device) (machines : List Machine) (is : IsNet net
 
     shifted : (x : Selected) (tdi : Bool)
         → IsStaged p s.stages (put_dr chip x (shift (dr_bits chip x s) tdi) s).stages
-    shifted Network tdi = put (shift (chain p s.stages) tdi) (length_shift (chain p s.stages) tdi)
+    shifted Network tdi = put (shift (chain p s.stages) tdi) (length-shift (chain p s.stages) tdi)
     shifted Identity tdi = same
     shifted Bypass tdi = same
 

@@ -10,7 +10,7 @@ use crate::shapes::words_at;
 use crate::var::{Item, Scope, Var, WaveKind};
 use ij_bits::{List, OutOfMemory};
 use instruments::Model;
-use net_graph::{Inst, Net, register_count};
+use net_graph::{Inst, Net, mux_count, register_count};
 use std::alloc::Global;
 
 /// Adds some lines of the declarations.
@@ -132,14 +132,6 @@ fn add_mux_in(net: &Net, node: u32, mux: u32, items: &mut List<Item>) -> Result<
     } else {
         add_all(&[], items)
     }
-}
-
-/// How many multiplexers there are.
-fn mux_count(net: &Net) -> u32
-    requires { IsNet net.now }
-    ensures { result ≡ length net.now.muxes.items }
-{
-    net.muxes.len() as u32
 }
 
 /// Adds the multiplexers of a node.

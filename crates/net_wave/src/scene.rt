@@ -18,7 +18,7 @@ use crate::var::Var;
 use ij_bits::{List, OutOfMemory};
 use instruments::Model;
 use net_bench::Bench;
-use net_graph::{Holds, Net, Sig, row_of};
+use net_graph::{Holds, Net, Sig, is_in, row_of};
 use tap_machine::Pins;
 
 /// A bench at a clock that begins with some pins, and its shift stages if they are to be shown.
@@ -41,18 +41,6 @@ pub(crate) fn shown(bench: &Bench, pins: Pins) -> Shown
         tdo: bench.tdo(),
         tap: bench.tap(),
     }
-}
-
-/// Whether a register is among some.
-fn is_in(registers: &[u32], reg: u32) -> bool
-    ensures { result ≡ paths.is_in registers.now reg }
-{
-    for other in registers {
-        if *other == reg {
-            return true;
-        }
-    }
-    false
 }
 
 /// Adds the digits of a row.

@@ -6,18 +6,8 @@ ghost use Rattle.net_graph.specs.Nets.{IsNet};
 ghost use Rattle.report.specs.Paths.{instrument_path};
 
 use ij_io::{Sink, StoreFault};
-use net_graph::Net;
+use net_graph::{Net, node_of};
 use path_names::put_instance_path;
-
-/// The node of an instrument.
-fn node_of(net: &Net, inst: u32) -> u32
-    requires well_formed { IsNet net.now }
-    requires there { inst < length net.now.insts.items }
-    ensures node { result ≡ get_or (map (λ i. i.node) net.now.insts.items) inst 0 }
-    ensures there { result < length net.now.nodes.items }
-{
-    net.insts.get(inst as usize).node
-}
 
 /// Writes the path of an instrument: the names of its node, joined by dots.
 pub(crate) fn put_instrument_path<K: Sink>(

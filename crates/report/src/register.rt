@@ -8,7 +8,7 @@ ghost use Rattle.net_graph.specs.Nets.{IsNet};
 ghost use Rattle.report.specs.Registers.{bit_digit, register_digits, register_text, registers_text};
 
 use ij_io::{Sink, StoreFault};
-use net_graph::{BitId, Holds, Net, is_select, register_count};
+use net_graph::{BitId, Holds, Net, is_select, register_count, thing_of};
 use path_names::put_thing_path;
 
 /// The digit of a bit, or an s where it selects.
@@ -49,16 +49,6 @@ fn put_digits<K: Sink>(
         k.write(&[digit_of(net, holds, bit)])?;
     }
     Ok(())
-}
-
-/// The thing that a register is.
-fn thing_of(net: &Net, reg: u32) -> u32
-    requires well_formed { IsNet net.now }
-    requires there { reg < length net.now.regs.items }
-    ensures thing { result ≡ named.thing_of net.now reg }
-    ensures there { result < length net.now.things.items }
-{
-    net.regs.get(reg as usize).thing
 }
 
 /// The width of a register. Takes no memory.

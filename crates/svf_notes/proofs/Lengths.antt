@@ -34,6 +34,7 @@ use Rattle.svf_notes.specs.Notes.{rows_if, selected_name, target, target_rows, t
 use Rattle.svf_notes.specs.Notes.{values_text}
 use Rattle.svf_notes.specs.Scans.{Scan}
 use Rattle.svf_notes.proofs.Rows.{note_both, path_short, some_bits}
+use Rattle.ij_text.proofs.Widths.{four_digits}
 
 -- ---- words and numbers
 
@@ -43,9 +44,6 @@ if_short false xs n h = omega arith
 
 pub ten_digits : (n : ℕ) → n < 10000000000 → length (decimal n) ≤ 10
 ten_digits n h = length-decimal-le 10 n (omega arith) (omega (arith, h)) (omega (arith, h))
-
-four_digits : (n : ℕ) → n < 10000 → length (decimal n) ≤ 4
-four_digits n h = length-decimal-le 4 n (omega arith) (omega (arith, h)) (omega (arith, h))
 
 digits_length : (shown : Shown) (bits : List Shifted) → length (digits shown bits) ≡ length bits
 digits_length shown [] = refl

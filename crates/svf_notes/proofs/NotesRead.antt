@@ -43,29 +43,9 @@ use Rattle.svf_notes.proofs.InWords.{InWord, both_in, decimal_in, label_in, labe
 use Rattle.svf_notes.proofs.OnLine.{notes_on}
 use Rattle.svf_notes.proofs.Rows.{path_short, some_bits}
 use Rattle.svf_notes.proofs.Same.{after_lines}
+use Rattle.ij_text.proofs.Parts.{Without, split_none, split_off}
 
 -- ---- splitting
-
-abbrev Without : ℕ → List ℕ → Type 0
-Without c [] = Unit {0}
-Without c (b ∷ bs) = ((b == c) ≡ false) × Without c bs
-
-is_itself : (c : ℕ) (xs ys : List (List ℕ)) → cond (c == c) xs ys ≡ xs
-is_itself c xs ys =
-    let same : (c == c) ≡ true = grind (arith, nat_tests) in
-    ap (λ (k : Bool). cond k xs ys) same
-
-split_first : (c : ℕ) (w xs : List ℕ) → Without c w → split c (w ++ c ∷ xs) ≡ w ∷ split c xs
-split_first c [] xs h = is_itself c ([] ∷ split c xs) (before c (split c xs))
-split_first c (b ∷ bs) xs h =
-    ap (λ (k : Bool). cond k ([] ∷ split c (bs ++ c ∷ xs)) (before b (split c (bs ++ c ∷ xs)))) h.0
-    ∙ ap (before b) (split_first c bs xs h.1)
-
-split_last : (c : ℕ) (w : List ℕ) → Without c w → split c w ≡ w ∷ []
-split_last c [] h = refl
-split_last c (b ∷ bs) h =
-    ap (λ (k : Bool). cond k ([] ∷ split c bs) (before b (split c bs))) h.0
-    ∙ ap (before b) (split_last c bs h.1)
 
 without_feed : (w : List ℕ) → IsOnLine w → Without 10 w
 without_feed [] on = tt
@@ -92,7 +72,7 @@ lines_cut (line ∷ lines) rest on =
     append_assoc line (note_text lines) (10 ∷ rest) ∙ ap (λ (l : List ℕ). line ++ l) tail.1 in
     ap (λ (l : List ℕ). [] ∷ split 10 (33 ∷ 58 ∷ l)) whole
     ∙ ap (λ (l : List (List ℕ)). [] ∷ l)
-    (split_first 10 (33 ∷ 58 ∷ line) tail.0 (refl, (refl, without_feed line on.0)))
+    (split_off 10 (33 ∷ 58 ∷ line) tail.0 (refl, (refl, without_feed line on.0)))
     ∙ ap (λ (l : List (List ℕ)). [] ∷ (marked line ∷ l)) others
 
 -- ---- words
@@ -290,9 +270,9 @@ module _ (net : Net) (is : IsNet net) (r at : ℕ) (held : List Bool) (bits : Li
   parts_are =
       let top = decimal_written high (omega (arith, few)) in
       let bottom = decimal_written at (omega (arith, few)) in
-      split_first 46 (decimal high) (46 ∷ decimal at) (without_dot (decimal high) top.bytes)
+      split_off 46 (decimal high) (46 ∷ decimal at) (without_dot (decimal high) top.bytes)
       ∙ ap (λ (l : List (List ℕ)). decimal high ∷ [] ∷ l)
-      (split_last 46 (decimal at) (without_dot (decimal at) bottom.bytes))
+      (split_none 46 (decimal at) (without_dot (decimal at) bottom.bytes))
 
   row_told : read_row (runs (marked (row net r at held bits))) ≡ Some told_row
   row_told =

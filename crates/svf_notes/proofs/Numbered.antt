@@ -14,6 +14,7 @@ use Rattle.net_bench.specs.Bench.{Chip, State, clock, tdo}
 use Rattle.svf_notes.specs.declared.scan.Shifted.{Shifted}
 use Rattle.svf_notes.specs.Laws.{HaveBits, ScansAreNumbered, counted}
 use Rattle.svf_notes.specs.Scans.{Scan, last_bit, led_by, scans_of, shifted_at}
+use Rattle.ij_bits.proofs.Tests.{next_not_zero}
 
 -- the numbers of the scans that some pins end, whatever the chip does
 abbrev numbers_at : Pins → List ℕ → List ℕ
@@ -78,15 +79,12 @@ quiet_idle InIdle = refl
 
 -- ---- one scan
 
-not_none : (n : ℕ) → (suc n == 0) ≡ false
-not_none n = grind (arith, nat_tests)
-
 shift_numbers : (n k : ℕ) (t : Bool) (ts : List Bool) (es : List (Option Bool))
     → numbers_in (shifts (suc n) k (t ∷ ts) es) ≡ suc n ∷ []
-shift_numbers n k t [] es = ap (λ (z : Bool). cond z [] (suc n ∷ [])) (not_none n)
+shift_numbers n k t [] es = ap (λ (z : Bool). cond z [] (suc n ∷ [])) (next_not_zero n)
 shift_numbers n k t (u ∷ us) es =
     let later : List ℕ = numbers_in (shifts (suc n) (suc k) (u ∷ us) (drop 1 es)) in
-    ap (λ (z : Bool). cond z later later) (not_none n) ∙ shift_numbers n (suc k) u us (drop 1 es)
+    ap (λ (z : Bool). cond z later later) (next_not_zero n) ∙ shift_numbers n (suc k) u us (drop 1 es)
 
 scan_numbers : (front back : List Bool) (n : ℕ) (ts : List Bool) (es : List (Option Bool)) → 0 < length ts
     → numbers_in (map no_shift front ++ (shifts (suc n) 0 ts es ++ map no_shift back)) ≡ suc n ∷ []

@@ -36,6 +36,7 @@ use Rattle.svf_notes.specs.Notes.{instruction_text, opcode_text, is_compared, if
 use Rattle.svf_notes.specs.Notes.{note_of, number_text, other_length, path_text, path_length, positions_text}
 use Rattle.svf_notes.specs.Notes.{range_text, row, rows, rows_if, selected_name, target, target_rows}
 use Rattle.svf_notes.specs.Notes.{target_text, tdi_bits, values_text}
+use Rattle.svf_reader.proofs.OnLine.{name_on_line}
 
 -- ---- bytes
 
@@ -90,38 +91,12 @@ hex_on bits (suc n) = (code_on _, hex_on bits n)
 
 -- ---- names
 
-letter_on : (b : ℕ) → in_name b ≡ true → (b == 10) ≡ false
-letter_on b h = cases (b == 10) refl
-  where
-    cases : (k : Bool) → (b == 10) ≡ k → (b == 10) ≡ false
-    cases false e = e
-    cases true e =
-        let feed : b ≡ 10 = grind (arith, nat_tests) in
-        let no : in_name 10 ≡ true = ap in_name (sym feed) ∙ h in
-        absurd (cc)
-
-letters_on : (bs : List ℕ) → list_all in_name bs ≡ true → IsOnLine bs
-letters_on [] h = tt
-letters_on (b ∷ bs) h =
-    let both = and_parts (in_name b) (list_all in_name bs) h in
-    (letter_on b both.0, letters_on bs both.1)
-
-or_left : (k l : Bool) → k ≡ true → (k || l) ≡ true
-or_left true l e = refl
-or_left false l e = absurd (cc)
-
-name_on : (name : List ℕ) → is_name name ≡ true → IsOnLine name
-name_on [] h = absurd (cc)
-name_on (b ∷ bs) h =
-    let both = and_parts (begins_name b) (list_all in_name bs) h in
-    (letter_on b (or_left (begins_name b) _ both.0), letters_on bs both.1)
-
 dots_on : (names : List (Listed ℕ)) → All (λ name. IsTrue (is_name name.items)) names
     → IsOnLine (flat_map with_dot names)
 dots_on [] all = tt
 dots_on (name ∷ names) all =
     both_on_line (with_dot name) (flat_map with_dot names)
-    (both_on_line name.items (46 ∷ []) (name_on name.items
+    (both_on_line name.items (46 ∷ []) (name_on_line name.items
     (All-head (λ (n : Listed ℕ). IsTrue (is_name n.items)) name names all)) (refl, tt))
     (dots_on names (All-tail (λ (n : Listed ℕ). IsTrue (is_name n.items)) name names all))
 
@@ -140,7 +115,7 @@ things_on : (net : Net) (things : List Thing) (t : ℕ) → All (IsThing net) th
     → IsOnLine (get_or (map (λ thing. thing.name.items) things) t [])
 things_on net [] t all = tt
 things_on net (thing ∷ things) zero all =
-    name_on thing.name.items (All-head (IsThing net) thing things all).named
+    name_on_line thing.name.items (All-head (IsThing net) thing things all).named
 things_on net (thing ∷ things) (suc t) all = things_on net things t (All-tail (IsThing net) thing things all)
 
 register_on : (net : Net) (r : ℕ) → IsNet net → IsOnLine (register_path net r)

@@ -9,19 +9,9 @@ ghost use Rattle.svf_notes.specs.Notes.{range_text};
 ghost use Rattle.svf_notes.specs.Places as places;
 
 use ij_io::{Sink, StoreFault, SureSink, Word, put_words};
-use net_graph::{Net, Sig};
+use net_graph::{Net, Sig, thing_of};
 use net_list::{output_index, put_bit_name, put_output};
 use path_names::put_thing_path;
-
-/// The thing by which a register is named.
-fn register_thing(net: &Net, reg: u32) -> u32
-    requires well_formed { IsNet net.now }
-    requires there { reg < length net.now.regs.items }
-    ensures thing { result ≡ named.thing_of net.now reg }
-    ensures there { result < length net.now.things.items }
-{
-    net.regs.get(reg as usize).thing
-}
 
 /// The index of the left bit of a thing, the highest position.
 fn left_index(net: &Net, thing: u32) -> u32
@@ -45,7 +35,7 @@ pub(crate) fn put_register_path(net: &Net, reg: u32, note: &mut SureSink) -> Res
     requires there { reg < length net.now.regs.items }
     ensures { OnOk result (Adds (Some note.old) (Some note.new) (register_path net.now reg)) }
 {
-    put_thing_path(net, register_thing(net, reg), note)
+    put_thing_path(net, thing_of(net, reg), note)
 }
 
 /// Writes the range of a register of more than one bit.
@@ -63,7 +53,7 @@ pub(crate) fn put_range(
     if width == 1 {
         return note.write(b"");
     }
-    let thing = register_thing(net, reg);
+    let thing = thing_of(net, reg);
     let left = left_index(net, thing);
     let right = right_index(net, thing);
     put_words(

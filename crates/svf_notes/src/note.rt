@@ -34,19 +34,6 @@ pub(crate) fn target(bench: &Bench) -> ScanTarget
     }
 }
 
-/// How many bits the registers of a path have.
-fn route_len(holds: &Holds, path: &[u32]) -> u32
-    requires route { IsRoute (length holds.now) path.now }
-    requires few { length (chain path.now holds.now) ≤ 4096 }
-    ensures { result ≡ length (chain path.now holds.now) }
-{
-    let mut len = 0;
-    for i in 0..path.len() {
-        len += holds.register(path[i]).len();
-    }
-    len
-}
-
 /// How many bits the active path has.
 pub(crate) fn path_len(net: &Net, bench: &Bench) -> u32
     requires well_formed { IsNet net.now }
@@ -54,7 +41,7 @@ pub(crate) fn path_len(net: &Net, bench: &Bench) -> u32
     ensures { result ≡ notes.path_length net.now bench.now.state.holds }
 {
     let _ = net;
-    route_len(bench.holds(), bench.path())
+    bench.holds().path_bits(bench.path())
 }
 
 /// Writes the length of the path that a scan goes through.

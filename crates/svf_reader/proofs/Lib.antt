@@ -16,3 +16,4 @@ pub mod Packing
 pub mod Keeping
 pub mod Lone
 pub mod Lines
+pub mod OnLine

@@ -20,6 +20,7 @@ use Rattle.tap_machine.specs.Pieces.{piece_pins, stretch}
 use Rattle.ij_bits.proofs.WordBits.{get_or-bits_of, length-bits_of}
 use Rattle.std.specs.Int.{bit_at}
 use Rattle.tap_machine.proofs.Shifts.{drop_twice, expects_here, masked_at, pin, other_shift}
+use Rattle.ij_bits.proofs.Hex.{bits_of-number_of}
 
 -- ---- parts of lists
 
@@ -314,31 +315,9 @@ nothing_expected len k n tdo mask bits none within is =
 
 -- ---- bits of numbers
 
-digit_le : (b : Bool) → (if b then 1 else 0) ≤ 1
-digit_le true = omega arith
-digit_le false = omega arith
-
-lowest_is : (b : Bool) (n : ℕ) → ((((if b then 1 else 0) + 2 * n) % 2) == 1) ≡ b
-lowest_is true n = let odd : (1 + 2 * n) % 2 ≡ 1 = omega arith in ap (λ r. r == 1) odd
-lowest_is false n = let even : (0 + 2 * n) % 2 ≡ 0 = omega arith in ap (λ r. r == 1) even
-
-half_is : (b : Bool) (n : ℕ) → ((if b then 1 else 0) + 2 * n) / 2 ≡ n
-half_is b n = omega (arith, digit_le b)
-
-bits_of-number_of : (bits : List Bool) → bits_of (length bits) (number_of bits) ≡ bits
-bits_of-number_of [] = refl
-bits_of-number_of (b ∷ bits) =
-    ap (λ c. c ∷ bits_of (length bits) (number_of (b ∷ bits) / 2)) (lowest_is b (number_of bits))
-    ∙ ap (λ n. b ∷ bits_of (length bits) n) (half_is b (number_of bits))
-    ∙ ap (λ bs. b ∷ bs) (bits_of-number_of bits)
-
 pub bits_of_part : (n x : ℕ) (bits : List Bool) → length bits ≡ n → x ≡ number_of bits → bits_of n x ≡ bits
 bits_of_part n x bits long is =
     ap (λ m. bits_of m x) (sym long) ∙ ap (bits_of (length bits)) is ∙ bits_of-number_of bits
-
-pub bits_of_none : (n : ℕ) → bits_of n 0 ≡ replicate n false
-bits_of_none zero = refl
-bits_of_none (suc n) = ap (λ bs. false ∷ bs) (bits_of_none n)
 
 ones_from : (n : ℕ) → bits_of n (2 ^ n - 1) ≡ replicate n true
 ones_from zero = refl

@@ -2,7 +2,8 @@ use Rattle.ij_io.proofs.Adding.{adds_both, adds_front, adds_then_part, at_refusa
 use Rattle.std.specs.Prelude.{ℕ, List, ◌++◌, codes}
 use Rattle.std.proofs.Common.{ap, ◌∙◌}
 use Rattle.net_graph.specs.PathNames.{instance_path}
-use Rattle.net_list.specs.Outputs.{node_of, port_name}
+use Rattle.net_graph.specs.Named.{node_of}
+use Rattle.net_list.specs.Outputs.{port_name}
 use Rattle.net_list.proofs.outputs.put_output.Goals as goal
 
 pub returns-in_err-put_instance_path-clause-part : goal.returns-in_err-put_instance_path-clause-part

@@ -6,8 +6,8 @@ use Rattle.net_graph.specs.Path.{route_of}
 use Rattle.svf_notes.proofs.Rows.{path_short}
 use Rattle.svf_notes.proofs.note.path_len.Goals as goal
 
-pub route_len-requires-clause-few : goal.route_len-requires-clause-few
-route_len-requires-clause-few c =
+pub path_bits-requires-clause-few : goal.path_bits-requires-clause-few
+path_bits-requires-clause-few c =
     let net = c.args.net.now in
     let holds = c.holds.result.now in
     let held : AreHolds net holds =
