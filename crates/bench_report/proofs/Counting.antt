@@ -15,10 +15,6 @@ use Rattle.tap_machine.specs.declared.Pins.{Pins}
 use Rattle.bench_report.specs.Report.{Names, compare_at, named_lines}
 pub use Rattle.net_bench.proofs.Differing.{differing_both}
 
-pub differing_one : (c : Compare) (cs : List Compare) (same : Bool) → same_bit c.expect c.found ≡ same
-    → differing (c ∷ cs) ≡ cond same (differing cs) (c ∷ differing cs)
-differing_one c cs same e = ap (λ k. cond k (differing cs) (c ∷ differing cs)) e
-
 abbrev line : Names → Compare → List ℕ
 line names c = differ_text
     (record { scan = c.scan; bit = c.bit; expect = c.expect; found = c.found; read = names c.scan c.bit })

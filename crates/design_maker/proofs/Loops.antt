@@ -16,23 +16,6 @@ use Rattle.design_maker.specs.Procedure.{word_at, written}
 
 -- ---- things with their numbers
 
-pub numbered_next : {A B : Type 0} (f : ℕ → A → List B) (xs : List A) (i : ℕ) (x : A) (done whole : List B)
-    → i < length xs → x ≡ get_or xs i x
-    → done ++ numbered f (i + 1) (drop i xs) ≡ whole
-    → (done ++ f (i + 1) x) ++ numbered f (i + 1 + 1) (drop (i + 1) xs) ≡ whole
-numbered_next f xs i x done whole within is before =
-    let more : i + 1 + 1 ≡ suc (i + 1) = omega arith in
-    append_assoc done (f (i + 1) x) (numbered f (i + 1 + 1) (drop (i + 1) xs))
-    ∙ ap (λ l. done ++ l) (ap (λ y. f (i + 1) y ++ numbered f (i + 1 + 1) (drop (i + 1) xs)) is
-    ∙ ap (λ n. f (i + 1) (get_or xs i x) ++ numbered f n (drop (i + 1) xs)) more
-    ∙ sym (at_drop_more (numbered f (i + 1)) xs i x within))
-    ∙ before
-
-pub numbered_done : {A B : Type 0} (f : ℕ → A → List B) (xs : List A) (i : ℕ) (done whole : List B)
-    → length xs ≤ i → done ++ numbered f (i + 1) (drop i xs) ≡ whole → done ≡ whole
-numbered_done f xs i done whole all before =
-    sym (append-nil done) ∙ ap (λ l. done ++ l) (sym (at_drop_all (numbered f (i + 1)) xs i all)) ∙ before
-
 -- ---- SIBs
 
 pub sibs_next : (i sibs j n m : ℕ) (done whole : List SeenItem) → n ≡ suc m
@@ -44,11 +27,6 @@ sibs_next i sibs j n m done whole some before =
     ∙ ap (λ l. done ++ l) (ap (λ k. sib_item i sibs (j + 1) ∷ sib_items i sibs k m) more
     ∙ ap (sib_items i sibs (j + 1)) (sym some))
     ∙ before
-
-pub sibs_done : (i sibs j n : ℕ) (done whole : List SeenItem) → n ≡ 0
-    → done ++ sib_items i sibs j n ≡ whole → done ≡ whole
-sibs_done i sibs j n done whole none before =
-    sym (append-nil done) ∙ ap (λ k. done ++ sib_items i sibs j k) (sym none) ∙ before
 
 -- ---- instruments
 
@@ -88,11 +66,6 @@ turn_next n m xs ys g h t word done whole some is after held before =
     ++ (turn_text p.0 (word_at (after_turn p.0 xs) p.0.at) ++ turns_text m (after_turn p.0 xs) p.1)) is
     ∙ ap (λ k. done ++ turns_text k xs g) (sym some)
     ∙ before
-
-pub turns_done : (n : ℕ) (xs : List Instrument) (g : Lcg) (done whole : List ℕ) → n ≡ 0
-    → done ++ turns_text n xs g ≡ whole → done ≡ whole
-turns_done n xs g done whole none before =
-    sym (append-nil done) ∙ ap (λ k. done ++ turns_text k xs g) (sym none) ∙ before
 
 -- a turn changes no number of instruments
 pub same_count : (t : Turn) (xs ys : List Instrument) → ys ≡ after_turn t xs → length ys ≡ length xs

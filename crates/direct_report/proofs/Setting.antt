@@ -17,10 +17,6 @@ use Rattle.direct_report.proofs.Finding.{mark_is_none, none_passes}
 
 -- ---- setting
 
-pub start_marked : (marks : Marks) → AreBlank marks → AreMarked [] marks
-start_marked marks blank b =
-    record { within = omega (arith, blank b); there = sym (ap (marked []) (blank b)) }
-
 -- one read more is marked
 one_more : (xs : List ReadBit) (r : ReadBit) (marks after : Marks) (n : ℕ) → n ≡ suc (length xs)
     → ((b : BitId) → b ≡ r.bit → filter (at b) xs ≡ []) → HasMark marks r.bit → after ≡ set_mark marks r.bit n

@@ -95,30 +95,6 @@ met_big at bits k len n long lt e le =
     let all = higher bits i in
     closed_big at bits (omega (arith, here, up, all, le))
 
--- one bit more
-pub round_number : (bits : List (Option Bool)) (k len n : ℕ) (bit : Bool) → length bits ≡ len → k < len
-    → n ≡ total (drop (len - k) bits) → Some bit ≡ get_or bits (len - 1 - k) (Some false)
-    → 2 * n + cond bit 1 0 ≡ total (drop (len - (k + 1)) bits)
-round_number bits k len n bit long lt e f =
-    let i = len - 1 - k in
-    let next : suc i ≡ len - k = omega (arith, lt) in
-    let same : len - (k + 1) ≡ i = omega arith in
-    let here : total (drop i bits) ≡ cond bit 1 0 + 2 * total (drop (suc i) bits) =
-    one_lower bits i (omega (arith, lt, long))
-    ∙ ap (λ (o : Option Bool). cond (unwrap_or o false) 1 0 + 2 * total (drop (suc i) bits)) (sym f) in
-    let up : n ≡ total (drop (suc i) bits) = e ∙ ap (λ j. total (drop j bits)) (sym next) in
-    rw same (omega (arith, here, up))
-
-pub round_closed : (bits : List (Option Bool)) (k len : ℕ) (bit : Bool) → length bits ≡ len → k < len
-    → are_closed (drop (len - k) bits) ≡ true → Some bit ≡ get_or bits (len - 1 - k) (Some false)
-    → are_closed (drop (len - (k + 1)) bits) ≡ true
-round_closed bits k len bit long lt e f =
-    let i = len - 1 - k in
-    let next : suc i ≡ len - k = omega (arith, lt) in
-    let same : len - (k + 1) ≡ i = omega arith in
-    rw same (one_closed bits i (omega (arith, lt, long)) ∙ ap (λ (o : Option Bool). is_some o && are_closed
-    (drop (suc i) bits)) (sym f) ∙ ap (λ j. are_closed (drop j bits)) next ∙ e)
-
 -- ---- first and last
 
 drop_all : (bits : List (Option Bool)) (len : ℕ) → length bits ≡ len → drop len bits ≡ []

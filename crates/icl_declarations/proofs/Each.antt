@@ -9,13 +9,6 @@ use Rattle.ij_bits.proofs.Lists.{split_at}
 abbrev pub more : {A B E : Type 0} → (A → Result B E) → List B → List A → Result (List B) E
 more f out xs = each f xs >>= λ ys. Ok (out ++ ys)
 
-pub more_start : {A B E : Type 0} (f : A → Result B E) (xs : List A) → more f [] xs ≡ each f xs
-more_start {A} {B} {E} f xs = by_cases (each f xs)
-  where
-    by_cases : (r : Result (List B) E) → (r >>= λ ys. Ok ([] ++ ys)) ≡ r
-    by_cases (Ok ys) = refl
-    by_cases (Err e) = refl
-
 -- one item is there
 pub more_next : {A B E : Type 0} (f : A → Result B E) (out : List B) (x : A) (xs : List A) (y : B)
     → f x ≡ Ok y → more f (out ++ y ∷ []) xs ≡ more f out (x ∷ xs)

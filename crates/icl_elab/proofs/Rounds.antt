@@ -29,10 +29,6 @@ module _ {X A B : Type 0} (see : X → A) (f : A → Result B Fault) where
 
 -- ---- one step after another
 
--- want of memory tells nothing
-pub nothing_told : {Y : Type 0} (answer : Answer Y) → Fails None answer
-nothing_told answer = tt
-
 -- what gave a value didn't fail
 pub no_fault : {X Y : Type 0} (o : Option Fault) (x : X) (answer : Answer Y) → Fails o (Ok x) → Fails o answer
 no_fault None x answer h = tt

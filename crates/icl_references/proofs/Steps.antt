@@ -28,13 +28,6 @@ first_name frames here at name (next ∷ names) last =
     m.item.what)
     (λ child. path_from frames child at (next ∷ (names ++ last ∷ [])))
 
--- a name was an instance
-pub name_goes : (frames : List Frame) (here child : Here) (at : Place) (name : List ℕ) (names : List (List ℕ))
-    (last : List ℕ) → child_named frames here at name ≡ Ok child
-    → path_from frames child at (names ++ last ∷ []) ≡ path_from frames here at (name ∷ (names ++ last ∷ []))
-name_goes frames here child at name names last h = sym (first_name frames here at name names last
-    ∙ ap (λ (r : Answer Here). r >>= λ c. path_from frames c at (names ++ last ∷ [])) h)
-
 -- a name was none
 pub name_fails : (frames : List Frame) (here : Here) (at : Place) (name : List ℕ) (names : List (List ℕ))
     (last : List ℕ) (e : Option Fault) → Fails e (child_named frames here at name)

@@ -126,10 +126,6 @@ pub named_there : (frame : Frame) (at : Place) (name : List ℕ) (m : Member)
     → named frame at name ≡ Ok m → IsMember frame m
 named_there frame at name m h = member_there _ frame name m (known_is at name _ m h)
 
-pub known_member_there : (test : SeenWhat → Bool) (frame : Frame) (at : Place) (name : List ℕ) (m : Member)
-    → known_member at name (member_that test frame name) ≡ Ok m → IsMember frame m
-known_member_there test frame at name m h = member_there test frame name m (known_is at name _ m h)
-
 known_cell_there : (frames : List Frame) (at : Place) (cell : ℕ) (name : List ℕ) (h : Here)
     → known_cell at (child_cell frames cell name) ≡ Ok h → IsHere frames h
 known_cell_there frames at cell name h e = by_child (child_cell frames cell name) refl e

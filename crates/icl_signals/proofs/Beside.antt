@@ -19,35 +19,15 @@ use Rattle.icl_signals.specs.Alike.{wire_after, driver_after, end_after, next_af
 
 -- ---- none after, and some after some
 
-pub wire_stays : (w : Wire) → wire_after 0 w ≡ w
-wire_stays w =
-    let e : w.pos + 0 ≡ w.pos = omega arith in ap (λ p. record { cell = w.cell; part = w.part; pos = p }) e
-
 pub wire_goes_on : (m n : ℕ) (w : Wire) → wire_after m (wire_after n w) ≡ wire_after (n + m) w
 wire_goes_on m n w =
     let e : w.pos + n + m ≡ w.pos + (n + m) = omega arith in
     ap (λ p. record { cell = w.cell; part = w.part; pos = p }) e
 
-pub end_stays : (e : End) → end_after 0 e ≡ e
-end_stays (AtConstant b) = refl
-end_stays (AtBit w inverted stands) = ap (λ v. AtBit v inverted stands) (wire_stays w)
-end_stays InLoop = refl
-
 pub end_goes_on : (m n : ℕ) (e : End) → end_after m (end_after n e) ≡ end_after (n + m) e
 end_goes_on m n (AtConstant b) = refl
 end_goes_on m n (AtBit w inverted stands) = ap (λ v. AtBit v inverted stands) (wire_goes_on m n w)
 end_goes_on m n InLoop = refl
-
-pub driver_stays : (d : Driver) → driver_after 0 d ≡ d
-driver_stays (Another (Fixed b)) = refl
-driver_stays (Another (Bit cell part pos inverted)) =
-    let e : pos + 0 ≡ pos = omega arith in ap (λ p. Another (Bit cell part p inverted)) e
-driver_stays ARegisterBit = refl
-driver_stays AMuxOutput = refl
-driver_stays AnInstrumentOutput = refl
-driver_stays TheEntry = refl
-driver_stays AFreeInput = refl
-driver_stays NothingAtAll = refl
 
 pub turned_after : (k : ℕ) (t : Bool) (e : End) → turned_end t (end_after k e) ≡ end_after k (turned_end t e)
 turned_after k t (AtConstant b) = refl

@@ -3,12 +3,6 @@ use Rattle.std.proofs.Common.{◌≡◌, ◌<◌, ℕ, zero, suc, List, [], ◌�
 use Rattle.std.proofs.Common.{arith}
 use Rattle.std.specs.Prelude.{slice_get}
 
-pub mapped_at : {A B C : Type 0} (f : B → C) (g : A → B) (d : C) (xs : List A) (k : ℕ) (x : A) → k < length xs
-    → x ≡ get_or xs k x → f (g x) ≡ get_or (map f (map g xs)) k d
-mapped_at f g d [] k x lt e = absurd (omega (arith, lt))
-mapped_at f g d (y ∷ xs) zero x lt e = ap (λ z. f (g z)) e
-mapped_at f g d (y ∷ xs) (suc k) x lt e = mapped_at f g d xs k x (omega (arith, lt)) e
-
 pub none_at : {A B : Type 0} (f : A → B) (d : B) (xs : List A) (k : ℕ)
     → None ≡ slice_get xs k → d ≡ get_or (map f xs) k d
 none_at f d [] k h = refl

@@ -34,9 +34,6 @@ constant_stays : (k : ℕ) (b : Bool) → constant b ≡ sig_after k (constant b
 constant_stays k true = refl
 constant_stays k false = refl
 
-pub constants_beside : (k : ℕ) (b : Bool) → Outward (constant b) ≡ spot_after k (Outward (constant b))
-constants_beside k b = ap Outward (constant_stays k b)
-
 module _ (cells : List CellOf) where
   pub signals_beside : (at : Place) (k : ℕ) (e : End)
       → or_absent (data_end cells at (end_after k e)) ≡ sig_after k (or_absent (data_end cells at e))

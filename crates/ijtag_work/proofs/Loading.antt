@@ -170,7 +170,3 @@ pub all_given : (files : Option Files) (xs : List LoadWords) (i : ℕ) (texts : 
     → (loaded files (map seen_load (take i xs))).gives texts → (loaded files (map seen_load xs)).gives texts
 all_given files xs i texts all given =
     subst (λ (ls : List LoadWords). (loaded files (map seen_load ls)).gives texts) (take_all i xs all) given
-
-pub length-seen_texts : (texts : List (Vec ℕ Global)) → length (seen_texts texts) ≡ length texts
-length-seen_texts [] = refl
-length-seen_texts (text ∷ texts) = ap suc (length-seen_texts texts)

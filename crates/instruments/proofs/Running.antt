@@ -36,37 +36,6 @@ use Rattle.instruments.proofs.Changing.{same_refl}
 
 -- ---- arrays of numbers
 
-get_or-zeros : (n k : ℕ) → get_or (replicate n zero) k zero ≡ zero
-get_or-zeros zero k = refl
-get_or-zeros (suc n) zero = refl
-get_or-zeros (suc n) (suc k) = get_or-zeros n k
-
-pub stand_start : (n : ℕ) (ys : List ℕ) → StandFor (replicate n 0) (take 0 ys)
-stand_start n ys port = get_or-zeros n port
-
-pub stand_more : (xs ys : List ℕ) (i n : ℕ) → i < length xs → i < length ys → n ≡ get_or ys i 0
-    → StandFor xs (take i ys) → StandFor (slice_set xs i n) (take (i + 1) ys)
-stand_more xs ys i n h g e s port =
-    elim (eqb_tells port i) [
-      | inl same ↦
-          ap (λ p. get_or (slice_set xs i n) p 0) same.1
-          ∙ get_or-set_same xs i n 0 h
-          ∙ e
-          ∙ sym (get_or-take (i + 1) ys i 0 (omega arith))
-          ∙ ap (λ p. get_or (take (i + 1) ys) p 0) (sym same.1)
-      | inr apart ↦ get_or-set_other xs i port n 0 apart.1 ∙ s port ∙ taken ys i port apart.1
-          ∙ ap (λ k. get_or (take k ys) port 0) (sym (add-one i))
-    ]
-  where
-    taken : (ys : List ℕ) (i port : ℕ) → port ≢ i
-        → get_or (take i ys) port 0 ≡ get_or (take (suc i) ys) port 0
-    taken [] zero port h = refl
-    taken [] (suc i) port h = refl
-    taken (y ∷ ys) zero zero h = absurd (h refl)
-    taken (y ∷ ys) zero (suc port) h = refl
-    taken (y ∷ ys) (suc i) zero h = refl
-    taken (y ∷ ys) (suc i) (suc port) h = taken ys i port (λ e. h (ap suc e))
-
 -- ---- outputs
 
 pub output_in : (models : List Model) (runners : List Runner) (i port pos : ℕ) (m : Model) (r : Runner)
@@ -87,12 +56,6 @@ output_in models runners i port pos m r h count e f =
         (omega (arith, h, length-map runners running_of))
         ∙ ap (λ x. x.inner) (get_or-map running_of runners i r (running_of r) h)
         ∙ ap (λ x. x.machine) (sym f)
-
-pub output_past : (models : List Model) (runners : List Runner) (i port pos : ℕ) → length models ≤ i
-    → outputs (machines_of models) (insts_of runners) i port pos ≡ false
-output_past models runners i port pos h =
-    ap (λ x. x.output (inner_at (insts_of runners) i) port pos) (get_or_past (machines_of models) i
-    idle_machine (omega (arith, h, length-map models (λ m. machine_of (seen_model m)))))
 
 -- ---- events
 
@@ -228,15 +191,6 @@ shown_other_one runners i k new apart =
 
 -- ---- what drives the inputs is there
 
-input_driven : (net : Net) (holds : Holds) (sig : Sig) → AreHolds net holds
-    → IsInputOf net sig → IsDriven holds sig
-input_driven net holds Absent h i = tt
-input_driven net holds Zero h i = tt
-input_driven net holds One h i = tt
-input_driven net holds (Bit b inverted) h i =
-    omega (arith, i, length_at holds b.reg, ap (λ ns. get_or ns b.reg 0) h)
-input_driven net holds (Out inst port pos inverted) h i = tt
-
 pub signal_driven : (net : Net) (holds : Holds) (sig : Sig) → AreHolds net holds
     → IsSignalOf net sig → IsDriven holds sig
 signal_driven net holds Absent h i = tt
@@ -248,21 +202,6 @@ signal_driven net holds (Out inst port pos inverted) h i = tt
 
 abbrev pub IsShort : Holds → PortIn → Type 0
 IsShort holds port = (length port.bits.items ≤ 64) × All (IsDriven holds) port.bits.items
-
-pub inst_driven : (net : Net) (holds : Holds) (i : ℕ) (inst : Inst) → IsNet net → AreHolds net holds
-    → i < length net.insts.items → inst ≡ get_or net.insts.items i inst
-    → (length inst.ins.items ≤ 16) × All (IsShort holds) inst.ins.items
-inst_driven net holds i inst w h l e =
-    let k : IsInst net inst =
-    subst (IsInst net) (sym e) (All-get_or (IsInst net) net.insts.items i inst l w.insts) in (
-      k.few_inputs,
-      All-weaker (λ port. (length port.bits.items ≤ 64) × All (IsInputOf net) port.bits.items)
-          (IsShort holds) (λ port p. (
-            p.0,
-            All-weaker (IsInputOf net) (IsDriven holds)
-                (λ sig s. input_driven net holds sig h s) port.bits.items p.1,
-          )) inst.ins.items k.inputs,
-    )
 
 -- one more instrument is shown its inputs
 pub seen_step : (net : Net) (holds : Holds) (runners : List Runner) (i : ℕ) (new : Runner)

@@ -79,10 +79,6 @@ turn_smaller (s ∷ ss) bs =
 
 -- ---- loops
 
-pub pushed_apply : (old new : List BitStep) (rounds : Listed Group) → new ≡ old ++ ApplyStep rounds ∷ []
-    → seen_steps new ≡ seen_steps old ++ Apply (seen_groups rounds.items) ∷ []
-pushed_apply old new rounds h = ap seen_steps h ∙ map-append seen_step old (ApplyStep rounds ∷ [])
-
 pub fewer_branches : (n : ℕ) (empty : Bool) (lefts xs nexts : List (Bor (List BitStep))) → xs ≡ lefts
     → length xs ≡ n → empty ≡ (n == 0) → empty ≡ false
     → seen_slices nexts ≡ later (seen_slices xs)

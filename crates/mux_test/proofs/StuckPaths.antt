@@ -42,14 +42,6 @@ pub rows_are : (net : Net) (m : ℕ) (mux : Mux) → m < length net.muxes.items
 rows_are net m mux l e =
     get_or-map (λ x. x.rows.items) net.muxes.items m mux [] l ∙ ap (λ x. x.rows.items) (sym e)
 
-pub source_is : (net : Net) (b : Branch) (mux : Mux) (row : Row) → IsBranchOf net b
-    → mux ≡ get_or net.muxes.items b.mux mux
-    → row ≡ get_or mux.rows.items b.row row → Some row.from ≡ row_source net b
-source_is net b mux row is e f =
-    let rows = rows_are net b.mux mux is.mux e in
-    row_at mux.rows.items b.row row (omega (arith, is.row, ap length rows)) f
-    ∙ ap (λ rs. slice_get (map (λ r. r.from) rs) b.row) (sym rows)
-
 -- the row that lists the select value
 row_found : (k : ℕ) (rs : List Row) (bits : List Bool) (q : ℕ) → row_from k rs bits ≡ Some q
     → (i : ℕ) × (k + i ≡ q) × (i < length rs) × (row_point rs bits ≡ slice_get (map (λ r. r.from) rs) i)
@@ -88,20 +80,6 @@ no_row k (r ∷ rs) bits e = on (some_matches r.values.items bits) e (no_row (su
         → elim t as (λ _. Option Point) [ true ↦ Some r.from | false ↦ row_point rs bits ] ≡ None
     on true f later = absurd (none-some k (sym f))
     on false f later = later f
-
-pub same_row_source : (net : Net) (a b : Branch) → a.mux ≡ b.mux
-    → a.row ≡ b.row → row_source net a ≡ row_source net b
-same_row_source net a b e f =
-    ap (λ m. row_source net (record { mux = m; row = a.row })) e
-    ∙ ap (λ q. row_source net (record { mux = b.mux; row = q })) f
-
-pub stuck_here : (net : Net) (b : Branch) (holds : Holds) (m : ℕ) → m ≡ b.mux
-    → row_source net b ≡ stuck_source net b holds m
-stuck_here net b holds m e =
-    ap (λ (t : Bool). elim t as (λ _. Option Point) [
-      | true ↦ row_source net b
-      | false ↦ mux_source net holds m
-    ]) (sym (eq-eqb m b.mux e))
 
 pub stuck_elsewhere : (net : Net) (b : Branch) (holds : Holds) (m : ℕ) → m ≢ b.mux
     → mux_source net holds m ≡ stuck_source net b holds m

@@ -192,10 +192,6 @@ scans_are_fewest net form r n d w l = fewest net form n d w r l
 
 -- ---- the plans of the row that a register is in
 
-pub at_top : (net : Net) (form : Items) (r : ℕ) → place_of form (FromReg r) ≡ [] → fewest_scans net form r ≡ 1
-at_top net form r e =
-    ap (λ (bs : List Branch). length (row_scans net bs (length bs) (start_holds net))) e
-
 last_is : (xs : List Branch) (x d : Branch) (k : ℕ) → k ≡ length xs → get_or (xs ++ x ∷ []) k d ≡ x
 last_is [] x d k e = ap (λ (n : ℕ). get_or (x ∷ []) n d) e
 last_is (y ∷ xs) x d zero e = absurd (omega (arith, e))

@@ -189,25 +189,6 @@ played p b player stages told instruction scratch last first k digits
 abbrev taken : Playing → Remaining → ℕ → Playing
 taken p player n = record p { player = player; left = n }
 
-pub still_playing : (p q : Playing) → q ≡ taken p q.player q.left → IsPlaying p → IsPlaying q
-still_playing p q same is =
-    subst IsPlaying (sym same)
-    (record {
-      well_formed = is.well_formed;
-      models = is.models;
-      net = is.net;
-      same_models = is.same_models;
-      shape = is.shape;
-      stages = is.stages;
-      vars = is.vars;
-      told = is.told;
-      few = is.few;
-      pins = is.pins;
-      shifts = is.shifts;
-      known = is.known;
-      digits = is.digits;
-    })
-
 abbrev pub rest : Pins
 rest = no_shift false
 

@@ -48,10 +48,6 @@ either_false : (a b : Bool) → (a || b) ≡ false → (a ≡ false)
 either_false true b e = absurd (cc)
 either_false false b e = refl
 
-other_false : (a b : Bool) → (a || b) ≡ false → (b ≡ false)
-other_false true b e = absurd (cc)
-other_false false b e = e
-
 -- ---- what a clock leaves as it is
 
 module _ (chip : Chip Counts) where

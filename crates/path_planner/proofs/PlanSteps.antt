@@ -44,15 +44,6 @@ use Rattle.net_tree.proofs.Walks.{has_walk}
 use Rattle.ij_bits.proofs.Lists.{some_of}
 use Rattle.std.proofs.lemmas.Option.{none-some}
 
--- there is a path
-pub path_found : (net : Net) (form : Items) (holds : Holds) (found : Bool) (p : List ℕ) → Describes net form
-    → IsScannable net holds → (IsTrue found → scan_path net holds ≡ Some p)
-    → (IsFalse found → (scan_path net holds ≡ None) × (p ≡ [])) → scan_path net holds ≡ Some p
-path_found net form holds found p d s there none =
-    let w = has_walk net holds form d (λ m l. some_of (mux_source net holds m) (s.rows m l)) in
-    ⊎_elim there (λ f. absurd
-    (none-some (reverse w.path) (sym (none f).0 ∙ ap (option_map reverse) w.traced))) (cases_Bool found)
-
 -- the muxes at a depth below a number are in their needed rows
 abbrev pub AreOpen : Net → Items → SeenGroup → Holds → ℕ → Type 0
 AreOpen net form g h q =

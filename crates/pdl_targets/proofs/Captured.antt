@@ -159,8 +159,3 @@ pub none_left : (found : Option Picked) (r : ℕ) (regs rest : List Reg) (s : Si
     → rest ≡ [] → or_else found (captured_from r rest s) ≡ all → found ≡ all
 none_left found r regs rest s all none e =
     sym (or_none found) ∙ ap (λ x. or_else found (captured_from r x s)) (sym none) ∙ e
-
-pub no_bits_left : (found : Option Picked) (reg pos : ℕ) (rest : List Sig) (s : Sig) (all : Option Picked)
-    → rest ≡ [] → or_else found (capturing reg pos rest s) ≡ all → found ≡ all
-no_bits_left found reg pos rest s all none e =
-    sym (or_none found) ∙ ap (λ x. or_else found (capturing reg pos x s)) (sym none) ∙ e

@@ -5,10 +5,6 @@ use Rattle.pdl_targets.specs.declared.fault.TargetFault.{TargetFault}
 use Rattle.pdl_targets.specs.Seen.{Refuses, fault_of}
 use Rattle.pdl_targets.specs.Targets.{AFault, Found, Is, Fails, found_then, and_more, or_skip}
 
-pub then_is : {A B : Type 0} (x : Found A) (a : A) (next : A → Found B)
-    → x ≡ Is a → found_then x next ≡ next a
-then_is x a next e = ap (λ y. found_then y next) e
-
 -- a refusal at first is one of the whole
 refused_if : {A B : Type 0} (f : Found A → Found B)
     → ((fault : AFault) → f (Fails fault) ≡ Fails fault) → (x : Found A) (o : Option AFault)
@@ -19,10 +15,6 @@ refused_if f goes x (Some fault) h = ap f h ∙ goes fault
 pub refused_by : {A B : Type 0} (f : Found A → Found B) → ((fault : AFault) → f (Fails fault) ≡ Fails fault)
     → (x : Found A) (e : TargetFault) → Refuses x e → Refuses (f x) e
 refused_by f goes x e h = record { says = refused_if f goes x (fault_of e) h.says }
-
-pub refused_then : {A B : Type 0} (x : Found A) (next : A → Found B) (e : TargetFault)
-    → Refuses x e → Refuses (found_then x next) e
-refused_then x next e h = refused_by (λ y. found_then y next) (λ fault. refl) x e h
 
 pub refused_as : {A : Type 0} (x y : Found A) (e : TargetFault) → x ≡ y → Refuses y e → Refuses x e
 refused_as {A = A} x y e s h = record { says = as_well (fault_of e) h.says }

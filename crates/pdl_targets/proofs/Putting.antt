@@ -58,8 +58,3 @@ is_put_read (q ∷ qs) r = ap (λ l. cond (same_place q.bit r.bit) (r ∷ qs) (q
 pub read_placed : (rs : List ReadBit) (r : ReadBit) (o : Option ℕ)
     → o ≡ position (λ q. same_place q.bit r.bit) rs → placed_at o rs r ≡ put_read rs r
 read_placed rs r o e = sym (is_put_read rs r ∙ put_found (λ q. same_place q.bit r.bit) rs r o e)
-
--- the index at which something was found is one of the list
-pub found_within : {A : Type 0} (p : A → Bool) (xs : List A) (i : ℕ) → position p xs ≡ Some i → i < length xs
-found_within {A} p [] i e = absurd cc
-found_within {A} p (x ∷ xs) i e = (position-Some p (x ∷ xs) i x e).0

@@ -12,10 +12,6 @@ pub passed : {A : Type 0} (p : A → Bool) (part rest all : List A) (x : A) → 
 passed p part rest all x e t = append_assoc part (x ∷ []) (filter p rest)
     ∙ ap (λ b. part ++ cond b (x ∷ filter p rest) (filter p rest)) (sym t) ∙ e
 
-pub not_passed : {A : Type 0} (p : A → Bool) (part rest all : List A) (x : A)
-    → part ++ filter p (x ∷ rest) ≡ all → p x ≡ false → part ++ filter p rest ≡ all
-not_passed p part rest all x e t = ap (λ b. part ++ cond b (x ∷ filter p rest) (filter p rest)) (sym t) ∙ e
-
 -- ---- paths
 
 pub front_of_path : (path : List (Listed ℕ))

@@ -99,10 +99,6 @@ turned r (x ∷ xs) (suc k, l, e) =
 pub zero_held : (net : Net) (b : BitId) → IsBitOf net b → IsHeld (shape (zero_holds net)) b
 zero_held net b h = subst (λ ws. IsHeld ws b) (sym (zero-shape net.regs.items)) h
 
--- one write more
-pub written_none : (net : Net) (p : List ℕ) (bits : List Bool) → IsWritten net p [] bits bits
-written_none net p bits = record { long = refl; written = λ h a e. e }
-
 pub written_more : (net : Net) (n : ℕ) (path : List ℕ) (before bits after : List Bool) (ws : List WriteBit)
     (w : WriteBit) → IsRoute n (reverse path) → Contains path w.bit.reg → IsBitOf net w.bit
     → IsWritten net (reverse path) ws before bits

@@ -54,9 +54,6 @@ bit_before (b ∷ bs) (suc i) d a l =
         absurd (a.0 (i, short, get_or_default bs i b d short ∙ sym (place_is b (get_or bs i d) e)))
     by false e = refl
 
-pub number_none : (net : Net) (marks : Marks) → HaveMarks net marks → AreNumbered net marks []
-number_none net marks h = record { places = λ i b l. absurd (omega (arith, l)); there = h }
-
 pub number_next : (net : Net) (old new : Marks) (bits : List BitId) (i : ℕ) (d b : BitId)
     → AreDifferent bits → i < length bits → b ≡ get_or bits i d
     → ((xs : List BitId) → AreNumbered net old xs → length xs ≡ i
@@ -68,12 +65,6 @@ number_next net old new bits i d b once l is goes numbered =
     subst P (ap (λ x. take i bits ++ x ∷ []) is ∙ sym (take_more bits i d l))
     (goes (take i bits) numbered (length-take-le i bits (omega (arith, l)))
     (subst Q (sym is) (bit_before bits i d once l)))
-
-pub number_all : (net : Net) (marks : Marks) (bits : List BitId) (i : ℕ) → length bits ≤ i
-    → AreNumbered net marks (take i bits) → AreNumbered net marks bits
-number_all net marks bits i l h =
-    let P : List BitId → Type 0 = AreNumbered net marks in
-    subst P (take_all i bits l) h
 
 -- ---- different bits of a network are few
 

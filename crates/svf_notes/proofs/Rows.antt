@@ -105,17 +105,6 @@ pub width_at : (regs : List Reg) (r : ℕ) (reg : Reg) → r < length regs → r
 width_at regs r reg there is =
     get_or-map (λ (x : Reg). x.width) regs r reg 0 there ∙ ap (λ (x : Reg). x.width) (sym is)
 
--- the registers before a place have no more bits than all
-pub front_short : (holds : Holds) (path : List ℕ) (i : ℕ)
-    → length (chain (take i path) holds) ≤ length (chain path holds)
-front_short holds path i =
-    let all : length (chain path holds)
-    ≡ length (chain (take i path) holds) + length (chain (drop i path) holds) =
-    ap (λ (p : List ℕ). length (chain p holds)) (sym (take-append-drop i path))
-    ∙ ap length (chain_both (take i path) (drop i path) holds)
-    ∙ length-append (chain (take i path) holds) (chain (drop i path) holds) in
-    omega (arith, all)
-
 -- the register at a place from the far end on: where it ends and where it begins
 pub turn_is : (holds : Holds) (path : List ℕ) (j k end : ℕ) → j < length path → k ≡ length path - 1 - j
     → end ≡ length (chain (take (length path - j) path) holds) → end

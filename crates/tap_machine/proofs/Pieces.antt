@@ -337,10 +337,6 @@ ones n x few is = ap (bits_of n) (is ∙ ones_number n few) ∙ ones_from n
 
 -- ---- parts of scans
 
-pub held_length : (n : ℕ) (o : Option (List Bool)) → 0 < n → length (unwrap_or o []) ≡ n → HasLength n o
-held_length n None some e = absurd (omega (arith, some, e))
-held_length n (Some bits) some e = e
-
 pub held_bits : (n : ℕ) (o : Option (List Bool)) (other : List Bool) → 0 < n
     → length (unwrap_or o []) ≡ n → unwrap_or o other ≡ unwrap_or o []
 held_bits n None other some e = absurd (omega (arith, some, e))
