@@ -1,4 +1,3 @@
 pub mod Counting
 pub mod Whole
-pub mod States
 pub mod Counted

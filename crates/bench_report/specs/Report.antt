@@ -18,7 +18,7 @@ use Rattle.net_bench.specs.Board.{SeenBench}
 use Rattle.net_bench.specs.Playing.{Compare, play_from, compares_from, differing}
 use Rattle.instruments.specs.Runners.{machines_of}
 use Rattle.report.specs.Differs.{differ_text}
-use Rattle.report.specs.Instruments.{instrument_text}
+use Rattle.report.specs.Instruments.{instruments_text}
 use Rattle.report.specs.Registers.{registers_text}
 use Rattle.report.specs.Totalled.{play_text}
 
@@ -49,23 +49,6 @@ named_lines names (c ∷ cs) =
       found = c.found;
       read = names c.scan c.bit;
     }) ++ named_lines names cs
-
--- how often an instrument had each kind of event
-abbrev pub counts_at : List (Running Counts) → ℕ → Counts
-counts_at insts i = get_or (map (λ x. x.log) insts) i count_log.none
-
--- the instrument at a place, by its model
-abbrev pub inst_text : Net → List (Running Counts) → ℕ → SeenModel → List ℕ
-inst_text net insts i m =
-    instrument_text net m i (inner_at insts i).words (inner_at insts i).memory (counts_at insts i)
-
--- the instruments of some models, the first of which is at place i
-abbrev pub instruments_from : Net → List (Running Counts) → ℕ → List SeenModel → List ℕ
-instruments_from net insts i [] = []
-instruments_from net insts i (m ∷ ms) = inst_text net insts i m ++ instruments_from net insts (suc i) ms
-
-abbrev pub instruments_text : Net → List SeenModel → List (Running Counts) → List ℕ
-instruments_text net models insts = instruments_from net insts 0 models
 
 -- what the bench holds at an end: registers, then instruments
 abbrev pub state_text : Net → List SeenModel → State Counts → List ℕ

@@ -14,78 +14,6 @@ use ij_io::{Sink, StoreFault};
 use instruments::Model;
 use net_bench::Bench;
 use net_graph::Net;
-use report::{put_instrument, put_registers};
-
-/// The numbers of an instrument's words, 0 after the last one.
-fn words_of(bench: &Bench, inst: u32) -> [u64; 8]
-    requires { inst < length bench.now.state.insts }
-    ensures { (k : ℕ) → k < 8 → get_or result k 0 ≡ get_or (inner_at bench.now.state.insts inst).words k 0 }
-{
-    let mut words = [0u64; 8];
-    for i in 0..8usize {
-        words[i] = bench.word(inst, i as u32);
-    }
-    words
-}
-
-/// The numbers of an instrument's memory, 0 after the last one.
-fn memory_of(bench: &Bench, inst: u32) -> [u64; 256]
-    requires { inst < length bench.now.state.insts }
-    ensures { (k : ℕ) → k < 256
-        → get_or result k 0 ≡ get_or (inner_at bench.now.state.insts inst).memory k 0 }
-{
-    let mut memory = [0u64; 256];
-    for i in 0..256usize {
-        memory[i] = bench.mem(inst, i as u32);
-    }
-    memory
-}
-
-/// Writes the line of an instrument.
-fn put_instrument_line<K: Sink>(
-    net: &Net,
-    model: &Model,
-    bench: &Bench,
-    inst: u32,
-    k: &mut K,
-) -> Result<(), StoreFault>
-    requires well_formed { IsNet net.now }
-    requires model { IsModel (seen_model model.now) }
-    requires there { inst < length net.now.insts.items }
-    requires running { inst < length bench.now.state.insts }
-    ensures whole { OnOk result (Adds (K.taken k.old) (K.taken k.new)
-        (inst_text net.now bench.now.state.insts inst (seen_model model.now))) }
-    ensures part { OnErr result (AddsPart (K.taken k.old) (K.taken k.new)
-        (inst_text net.now bench.now.state.insts inst (seen_model model.now))) }
-    ensures cause { HasCause (K.faults k.old) (K.faults k.new) result StoreFault.Failed }
-{
-    let words = words_of(bench, inst);
-    let memory = memory_of(bench, inst);
-    put_instrument(net, model, inst, &words, &memory, bench.counts(inst), k)
-}
-
-/// Writes the line of each instrument.
-fn put_instruments<K: Sink>(
-    net: &Net,
-    models: &List<Model>,
-    bench: &Bench,
-    k: &mut K,
-) -> Result<(), StoreFault>
-    requires well_formed { IsNet net.now }
-    requires models { AreModels net.now models.now.items }
-    requires bench { bench.now.models ≡ models.now.items }
-    ensures whole { OnOk result (Adds (K.taken k.old) (K.taken k.new)
-        (instruments_text net.now (map seen_model models.now.items) bench.now.state.insts)) }
-    ensures part { OnErr result (AddsPart (K.taken k.old) (K.taken k.new)
-        (instruments_text net.now (map seen_model models.now.items) bench.now.state.insts)) }
-    ensures cause { HasCause (K.faults k.old) (K.faults k.new) result StoreFault.Failed }
-{
-    let _running = bench.instruments();
-    for i in 0..models.len() {
-        put_instrument_line(net, models.get(i), bench, i as u32, k)?;
-    }
-    Ok(())
-}
 
 /// Writes what each register and each instrument holds.
 pub(crate) fn put_state<K: Sink>(
@@ -104,7 +32,5 @@ pub(crate) fn put_state<K: Sink>(
         (state_text net.now (map seen_model models.now.items) bench.now.state)) }
     ensures cause { HasCause (K.faults k.old) (K.faults k.new) result StoreFault.Failed }
 {
-    put_registers(net, bench.holds(), k)?;
-    put_instruments(net, models, bench, k)?;
-    Ok(())
+    report::put_state(net, models, bench.holds(), bench.runners(), k)
 }

@@ -15,7 +15,7 @@ use Rattle.pdl_meaning.specs.Direct.{Direct, do_rounds, do_step, run_cycles}
 use Rattle.pdl_meaning.specs.States.{Reads, SeenState, direct_at, with_reads}
 use Rattle.report.specs.Registers.{registers_text}
 use Rattle.report.specs.Totalled.{direct_text}
-use Rattle.bench_report.specs.Report.{instruments_text}
+use Rattle.report.specs.Instruments.{instruments_text}
 use Rattle.instruments.specs.Runners.{machines_of}
 use Rattle.direct_report.specs.Going.{AreCounted, SameState}
 use Rattle.direct_report.specs.Tally.{Tally, Keeps}

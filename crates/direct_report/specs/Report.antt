@@ -16,7 +16,7 @@ use Rattle.pdl_meaning.specs.Direct.{Direct, direct, do_all, do_group, do_step, 
 use Rattle.report.specs.Differs.{differ_text}
 use Rattle.report.specs.Registers.{registers_text}
 use Rattle.report.specs.Totalled.{direct_text}
-use Rattle.bench_report.specs.Report.{instruments_text}
+use Rattle.report.specs.Instruments.{instruments_text}
 
 -- ---- the lines of reads
 

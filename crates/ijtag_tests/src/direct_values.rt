@@ -54,20 +54,17 @@ fn differing(direct: &Direct<'_>) -> usize {
 
 /// What is kept of the network's only instrument and of all reads, in the words of `direct`; nothing without
 /// memory.
-fn kept_text(alloc: Global, net: &Net, direct: &Direct<'_>) -> Option<String>
-    requires { length direct.now.state.insts ≡ length net.now.insts.items }
-{
-    if net.insts.len() != 1 {
+fn kept_text(alloc: Global, direct: &Direct<'_>) -> Option<String> {
+    let [runner] = direct.runners() else {
         return None;
-    }
-    let counts = direct.counts(0);
+    };
     format!(in alloc;
         "instrument mem q={:02X} m[3]={:02X} changes {} runs {} resets {}\nreads {} differs {}\n",
-        direct.word(0, 0),
-        direct.mem(0, 3),
-        counts.changes,
-        counts.runs,
-        counts.resets,
+        runner.machine.word(0),
+        runner.machine.mem(3),
+        runner.counts.changes,
+        runner.counts.runs,
+        runner.counts.resets,
         direct.reads().len(),
         differing(direct)
     )
@@ -85,7 +82,7 @@ fn done_text(alloc: Global, it: &Accepted) -> Option<String>
     let mut steps = steps_again(alloc, &it.network, it.procedure()).ok()?;
     let mut direct = Direct::power_up(alloc, net, it.models().models()).ok()?;
     do_steps(&mut direct, &mut steps).ok()?;
-    kept_text(alloc, net, &direct)
+    kept_text(alloc, &direct)
 }
 
 /// Words, memory, counts and the numbers of reads are those that `direct` prints.

@@ -10,11 +10,11 @@ ghost use Rattle.net_graph.specs.Signals.{hold_at};
 ghost use Rattle.net_graph.specs.Steps.{IsGroup, IsStep};
 ghost use Rattle.pdl_meaning.specs.Direct.{power_up, found, do_group, do_rounds, do_step};
 ghost use Rattle.pdl_meaning.specs.States.{with_reads, reads_of};
-ghost use Rattle.instruments.specs.Runners.{machines_of, AreModels};
+ghost use Rattle.instruments.specs.Runners.{insts_of, machines_of, AreModels};
 
 use crate::state::DataState;
 use ij_bits::{Buffer, List, OutOfMemory};
-use instruments::{Counts, Model};
+use instruments::{Model, Runner};
 use net_graph::{BitId, BitStep, Group, Net, ReadBit};
 use std::alloc::Global;
 
@@ -177,29 +177,11 @@ impl<'a> Direct<'a> {
         self.values.value(bit)
     }
 
-    /// The number of an instrument's word, counted from 0 in the order of its model, 0 past the last one. It
-    /// takes no memory.
-    pub fn word(&self, inst: u32, w: u32) -> u64
-        requires { inst < length self.now.state.insts }
-        ensures { result ≡ get_or (inner_at self.now.state.insts inst).words w 0 }
+    /// The instruments, each with its state and how often it had each kind of event. It takes no memory.
+    pub fn runners(&self) -> &[Runner]
+        ensures { insts_of result.now ≡ self.now.state.insts }
     {
-        self.values.word(inst, w)
-    }
-
-    /// The entry of an instrument's memory at an index, 0 past its end. It takes no memory.
-    pub fn mem(&self, inst: u32, i: u32) -> u64
-        requires { inst < length self.now.state.insts }
-        ensures { result ≡ get_or (inner_at self.now.state.insts inst).memory i 0 }
-    {
-        self.values.mem(inst, i)
-    }
-
-    /// How often an instrument had each kind of event. It takes no memory.
-    pub fn counts(&self, inst: u32) -> Counts
-        requires { inst < length self.now.state.insts }
-        ensures { result ≡ get_or (map (λ x. x.log) self.now.state.insts) inst count_log.none }
-    {
-        self.values.counts(inst)
+        self.values.runners()
     }
 
     /// Each bit that was read, in the order of the steps, with the value found. It takes no memory.

@@ -10,11 +10,11 @@ ghost use Rattle.net_graph.specs.Signals.{hold_at, signal, capture_signal};
 ghost use Rattle.net_graph.specs.Writes.{write_all};
 ghost use Rattle.pdl_meaning.specs.Direct.{run_cycles};
 ghost use Rattle.pdl_meaning.specs.States.{Reads, with_reads};
-ghost use Rattle.instruments.specs.Runners.{machines_of, AreModels};
+ghost use Rattle.instruments.specs.Runners.{insts_of, machines_of, AreModels};
 
 use crate::bits::{capture_of, run_times, write_bits};
 use ij_bits::{List, OutOfMemory};
-use instruments::{Counts, Model, Runner, captured, drive_all_inputs, reset_all, start};
+use instruments::{Model, Runner, captured, drive_all_inputs, reset_all, start};
 use net_graph::{BitId, Holds, Net, WriteBit};
 use std::alloc::Global;
 
@@ -146,35 +146,11 @@ impl<'a> DataState<'a> {
         &self.holds
     }
 
-    /// How many instruments there are.
-    pub fn instruments(&self) -> usize
-        ensures count { result ≡ length self.now.insts }
-        ensures models { result ≡ length self.now.models }
+    /// The instruments, each with its state and how often it had each kind of event. It takes no memory.
+    pub fn runners(&self) -> &[Runner]
+        ensures insts { insts_of result.now ≡ self.now.insts }
+        ensures models { length result.now ≡ length self.now.models }
     {
-        self.runners.len()
-    }
-
-    /// The number of an instrument's word, counted from 0 in the order of its model, 0 past the last one.
-    pub fn word(&self, inst: u32, w: u32) -> u64
-        requires { inst < length self.now.insts }
-        ensures { result ≡ get_or (inner_at self.now.insts inst).words w 0 }
-    {
-        self.runners[inst as usize].machine.word(w)
-    }
-
-    /// The entry of an instrument's memory at an index, 0 past its end.
-    pub fn mem(&self, inst: u32, i: u32) -> u64
-        requires { inst < length self.now.insts }
-        ensures { result ≡ get_or (inner_at self.now.insts inst).memory i 0 }
-    {
-        self.runners[inst as usize].machine.mem(i)
-    }
-
-    /// How often an instrument had each kind of event.
-    pub fn counts(&self, inst: u32) -> Counts
-        requires { inst < length self.now.insts }
-        ensures { result ≡ get_or (map (λ x. x.log) self.now.insts) inst count_log.none }
-    {
-        self.runners[inst as usize].counts
+        &self.runners
     }
 }

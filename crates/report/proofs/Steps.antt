@@ -6,9 +6,14 @@ use Rattle.std.proofs.Math.Seq.{drop-cons}
 use Rattle.std.proofs.lemmas.List.{length-map, get_or-map}
 use Rattle.std.proofs.lemmas.List.Elements.{All-get_or}
 use Rattle.std.specs.Prelude.{All}
+use Rattle.instruments.specs.declared.Counts.{Counts}
+use Rattle.instruments.specs.declared.model.Model.{Model}
 use Rattle.instruments.specs.declared.model.WordDef.{WordDef}
+use Rattle.instruments.specs.declared.runner.Runner.{Runner}
+use Rattle.instruments.specs.OnNetwork.{Running}
+use Rattle.instruments.specs.Runners.{insts_of, running_of}
 use Rattle.instruments.specs.Models.{IsWord}
-use Rattle.instruments.specs.Seen.{SeenWord, seen_word}
+use Rattle.instruments.specs.Seen.{SeenModel, SeenWord, seen_model, seen_word}
 use Rattle.net_graph.specs.Named.{thing_of, width_of}
 use Rattle.net_graph.specs.PathNames.{thing_path}
 use Rattle.ij_bits.specs.Hex.{hex_code}
@@ -16,7 +21,8 @@ use Rattle.net_graph.specs.declared.net.Net.{Net}
 use Rattle.net_graph.specs.Signals.{Holds}
 use Rattle.report.specs.Numbers.{lowest_digits}
 use Rattle.report.specs.Registers.{bit_digit, register_digits, register_text, registers_from}
-use Rattle.report.specs.Instruments.{word_text, words_from, entry_if, entries_from}
+use Rattle.report.specs.Instruments.{word_text, words_from, entry_if, entries_from, instrument_text}
+use Rattle.report.specs.Instruments.{instruments_from}
 
 pub hex_next : (number n m d : ℕ) → n ≡ suc m → d ≡ hex_code (number / 2 ^ (4 * m) % 16)
     → lowest_digits number n ≡ (d ∷ []) ++ lowest_digits number m
@@ -78,3 +84,29 @@ register_is net holds r t w thing width =
     ++ (thing_path net x ++ 32 ∷ (register_digits net holds r w ++ 10 ∷ []))) thing
     ∙ ap (λ (x : ℕ). codes "register "
     ++ (thing_path net (thing_of net r) ++ 32 ∷ (register_digits net holds r x ++ 10 ∷ []))) width
+
+-- the instruments from a place on
+pub instruments_next : (net : Net) (models : List Model) (runners : List Runner) (k s : ℕ) (m : Model)
+    (r : Runner) → k < length models → k < length runners → m ≡ get_or models k m → r ≡ get_or runners k r
+    → s ≡ suc k
+    → instruments_from net k (drop k (map seen_model models)) (drop k (insts_of runners))
+    ≡ instrument_text net (seen_model m) k (running_of r)
+    ++ instruments_from net s (drop s (map seen_model models)) (drop s (insts_of runners))
+instruments_next net models runners k s m r few also is_m is_r next =
+    let ms = map seen_model models in
+    let xs = insts_of runners in
+    let in_models : k < length ms = omega (arith, few, length-map models seen_model) in
+    let in_runners : k < length xs = omega (arith, also, length-map runners running_of) in
+    let model : seen_model m ≡ get_or ms k (seen_model m) =
+    ap seen_model is_m ∙ sym (get_or-map seen_model models k m (seen_model m) few) in
+    let runner : running_of r ≡ get_or xs k (running_of r) =
+    ap running_of is_r ∙ sym (get_or-map running_of runners k r (running_of r) also) in
+    ap (λ (l : List SeenModel). instruments_from net k l (drop k xs)) (drop-cons ms k (seen_model m) in_models)
+    ∙ ap (instruments_from net k (get_or ms k (seen_model m) ∷ drop (suc k) ms))
+    (drop-cons xs k (running_of r) in_runners)
+    ∙ ap (λ (x : SeenModel). instrument_text net x k (get_or xs k (running_of r))
+    ++ instruments_from net (suc k) (drop (suc k) ms) (drop (suc k) xs)) (sym model)
+    ∙ ap (λ (x : Running Counts). instrument_text net (seen_model m) k x
+    ++ instruments_from net (suc k) (drop (suc k) ms) (drop (suc k) xs)) (sym runner)
+    ∙ ap (λ (j : ℕ). instrument_text net (seen_model m) k (running_of r)
+    ++ instruments_from net j (drop j ms) (drop j xs)) (sym next)

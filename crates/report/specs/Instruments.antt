@@ -3,6 +3,7 @@ use Rattle.std.specs.Prelude.{ℕ, zero, suc, ◌==◌, cond, List, [], ◌∷�
 use Rattle.std.specs.Prelude.{Some, None}
 use Rattle.net_graph.specs.declared.net.Net.{Net}
 use Rattle.instruments.specs.declared.Counts.{Counts}
+use Rattle.instruments.specs.OnNetwork.{Running}
 use Rattle.instruments.specs.Seen.{SeenWord, SeenMemory, SeenModel}
 use Rattle.report.specs.Numbers.{hex_number}
 use Rattle.report.specs.Paths.{instrument_path}
@@ -43,8 +44,17 @@ counts_text c =
     codes " changes " ++ (decimal c.changes
     ++ (codes " runs " ++ (decimal c.runs ++ (codes " resets " ++ (decimal c.resets ++ 10 ∷ [])))))
 
--- an instrument with the numbers of its words and of its memory's entries
-abbrev pub instrument_text : Net → SeenModel → ℕ → List ℕ → List ℕ → Counts → List ℕ
-instrument_text net m i words memory counts =
+-- an instrument at a place: the numbers of its words and of its memory's entries, and its counts
+abbrev pub instrument_text : Net → SeenModel → ℕ → Running Counts → List ℕ
+instrument_text net m i x =
     codes "instrument " ++ (instrument_path net i
-    ++ (words_from words 0 m.words ++ (memory_text memory m.memory ++ counts_text counts)))
+    ++ (words_from x.inner.words 0 m.words ++ (memory_text x.inner.memory m.memory ++ counts_text x.log)))
+
+-- the instruments of some models, the first of which is at place i
+abbrev pub instruments_from : Net → ℕ → List SeenModel → List (Running Counts) → List ℕ
+instruments_from net i [] xs = []
+instruments_from net i (m ∷ ms) [] = []
+instruments_from net i (m ∷ ms) (x ∷ xs) = instrument_text net m i x ++ instruments_from net (suc i) ms xs
+
+abbrev pub instruments_text : Net → List SeenModel → List (Running Counts) → List ℕ
+instruments_text net models insts = instruments_from net 0 models insts

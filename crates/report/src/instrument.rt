@@ -4,6 +4,7 @@ ghost use Rattle.std.specs.Prelude.{IfSome};
 ghost use Rattle.ij_io.specs.Bytes.{Adds, AddsPart};
 ghost use Rattle.ij_io.specs.Causes.{HasCause};
 ghost use Rattle.instruments.specs.Models.{IsModel, IsWord, IsMemory};
+ghost use Rattle.instruments.specs.Runners.{running_of};
 ghost use Rattle.instruments.specs.Seen.{seen_word, seen_memory, seen_model};
 ghost use Rattle.net_graph.specs.Nets.{IsNet};
 ghost use Rattle.report.specs.Instruments.{word_text, words_from, entry_if, entry_text, index_text};
@@ -13,7 +14,7 @@ use crate::number::put_hex_number;
 use crate::path::put_instrument_path;
 use ij_bits::List;
 use ij_io::{Sink, StoreFault, Word, put_words};
-use instruments::{Counts, MemDef, Model, WordDef};
+use instruments::{Counts, Machine, MemDef, Model, Runner, WordDef};
 use net_graph::Net;
 use path_names::put_name;
 
@@ -33,38 +34,22 @@ fn put_word<K: Sink>(word: &WordDef, number: u64, k: &mut K) -> Result<(), Store
     Ok(())
 }
 
-/// The number of a word.
-fn word_at(numbers: &[u64; 8], i: usize) -> u64
-    requires { i < 8 }
-    ensures { result ≡ get_or numbers.now i 0 }
-{
-    numbers[i]
-}
-
-/// The number of an entry.
-fn entry_at(numbers: &[u64; 256], i: u32) -> u64
-    requires { i < 256 }
-    ensures { result ≡ get_or numbers.now i 0 }
-{
-    numbers[i as usize]
-}
-
 /// Writes the words.
 fn put_numbers<K: Sink>(
     words: &List<WordDef>,
-    numbers: &[u64; 8],
+    machine: &Machine,
     k: &mut K,
 ) -> Result<(), StoreFault>
     requires few { length words.now.items ≤ 8 }
     requires words { All IsWord (map seen_word words.now.items) }
     ensures whole { OnOk result
-        (Adds (K.taken k.old) (K.taken k.new) (words_from numbers.now 0 (map seen_word words.now.items))) }
+        (Adds (K.taken k.old) (K.taken k.new) (words_from machine.now.words 0 (map seen_word words.now.items))) }
     ensures part { OnErr result (AddsPart (K.taken k.old) (K.taken k.new)
-        (words_from numbers.now 0 (map seen_word words.now.items))) }
+        (words_from machine.now.words 0 (map seen_word words.now.items))) }
     ensures cause { HasCause (K.faults k.old) (K.faults k.new) result StoreFault.Failed }
 {
     for i in 0..words.len() {
-        put_word(words.get(i), word_at(numbers, i), k)?;
+        put_word(words.get(i), machine.word(i as u32), k)?;
     }
     Ok(())
 }
@@ -123,16 +108,16 @@ fn put_entry_if<K: Sink>(
 }
 
 /// Writes the entries of a memory that aren't 0.
-fn put_entries<K: Sink>(memory: &MemDef, numbers: &[u64; 256], k: &mut K) -> Result<(), StoreFault>
+fn put_entries<K: Sink>(memory: &MemDef, machine: &Machine, k: &mut K) -> Result<(), StoreFault>
     requires { IsMemory (seen_memory memory.now) }
     ensures whole { OnOk result
-        (Adds (K.taken k.old) (K.taken k.new) (memory_text numbers.now (Some (seen_memory memory.now)))) }
+        (Adds (K.taken k.old) (K.taken k.new) (memory_text machine.now.memory (Some (seen_memory memory.now)))) }
     ensures part { OnErr result
-        (AddsPart (K.taken k.old) (K.taken k.new) (memory_text numbers.now (Some (seen_memory memory.now)))) }
+        (AddsPart (K.taken k.old) (K.taken k.new) (memory_text machine.now.memory (Some (seen_memory memory.now)))) }
     ensures cause { HasCause (K.faults k.old) (K.faults k.new) result StoreFault.Failed }
 {
     for i in 0..memory.depth {
-        put_entry_if(memory, i, entry_at(numbers, i), k)?;
+        put_entry_if(memory, i, machine.mem(i), k)?;
     }
     Ok(())
 }
@@ -140,18 +125,18 @@ fn put_entries<K: Sink>(memory: &MemDef, numbers: &[u64; 256], k: &mut K) -> Res
 /// Writes the entries of the memory, if there is one, that aren't 0.
 fn put_memory<K: Sink>(
     memory: &Option<MemDef>,
-    numbers: &[u64; 256],
+    machine: &Machine,
     k: &mut K,
 ) -> Result<(), StoreFault>
     requires { IfSome (option_map seen_memory memory.now) IsMemory }
     ensures whole { OnOk result
-        (Adds (K.taken k.old) (K.taken k.new) (memory_text numbers.now (option_map seen_memory memory.now))) }
+        (Adds (K.taken k.old) (K.taken k.new) (memory_text machine.now.memory (option_map seen_memory memory.now))) }
     ensures part { OnErr result (AddsPart (K.taken k.old) (K.taken k.new)
-        (memory_text numbers.now (option_map seen_memory memory.now))) }
+        (memory_text machine.now.memory (option_map seen_memory memory.now))) }
     ensures cause { HasCause (K.faults k.old) (K.faults k.new) result StoreFault.Failed }
 {
     match memory {
-        Some(memory) => put_entries(memory, numbers, k),
+        Some(memory) => put_entries(memory, machine, k),
         None => Ok(()),
     }
 }
@@ -179,8 +164,7 @@ fn put_counts<K: Sink>(counts: Counts, k: &mut K) -> Result<(), StoreFault>
 
 /// Writes the line of an instrument: `instrument PATH W=H M[I]=H changes C runs R resets T`, each word in the
 /// order of the model, then each entry of the memory that isn't 0, in upper-case hexadecimal digits, as many
-/// as the width takes (IEEE 1687-2014, ICL: `Instance`). `words` and `memory` are the numbers of the words
-/// and of the entries, from place 0 on. It takes no memory itself.
+/// as the width takes (IEEE 1687-2014, ICL: `Instance`). It takes no memory itself.
 ///
 /// # Errors
 ///
@@ -189,24 +173,22 @@ pub fn put_instrument<K: Sink>(
     net: &Net,
     model: &Model,
     inst: u32,
-    words: &[u64; 8],
-    memory: &[u64; 256],
-    counts: Counts,
+    runner: &Runner,
     k: &mut K,
 ) -> Result<(), StoreFault>
     requires well_formed { IsNet net.now }
     requires model { IsModel (seen_model model.now) }
     requires there { inst < length net.now.insts.items }
     ensures whole { OnOk result (Adds (K.taken k.old) (K.taken k.new)
-        (instrument_text net.now (seen_model model.now) inst words.now memory.now counts)) }
+        (instrument_text net.now (seen_model model.now) inst (running_of runner.now))) }
     ensures part { OnErr result (AddsPart (K.taken k.old) (K.taken k.new)
-        (instrument_text net.now (seen_model model.now) inst words.now memory.now counts)) }
+        (instrument_text net.now (seen_model model.now) inst (running_of runner.now))) }
     ensures cause { HasCause (K.faults k.old) (K.faults k.new) result StoreFault.Failed }
 {
     k.write(b"instrument ")?;
     put_instrument_path(net, inst, k)?;
-    put_numbers(&model.words, words, k)?;
-    put_memory(&model.mem, memory, k)?;
-    put_counts(counts, k)?;
+    put_numbers(&model.words, &runner.machine, k)?;
+    put_memory(&model.mem, &runner.machine, k)?;
+    put_counts(runner.counts, k)?;
     Ok(())
 }

@@ -6,9 +6,10 @@ mod instrument;
 mod number;
 mod path;
 mod register;
+mod state;
 mod totals;
 
 pub use differ::{Differ, put_differ};
-pub use instrument::put_instrument;
 pub use register::{put_register, put_registers, width_of};
+pub use state::put_state;
 pub use totals::{Totals, put_totals};

@@ -8,7 +8,7 @@ invariant-loop-i g l =
     let d = l.memory in
     record {
       front : AddsFront (g.K.Sink.taken l.fn.k) (g.K.Sink.taken l.k)
-          (entries_from d.name.items d.width l.numbers l.i (d.depth - l.i))
-          (entries_from d.name.items d.width l.numbers 0 d.depth);
+          (entries_from d.name.items d.width l.machine.memory l.i (d.depth - l.i))
+          (entries_from d.name.items d.width l.machine.memory 0 d.depth);
       later : g.K.Sink.faults l.fn.k ≤ g.K.Sink.faults l.k;
     }

@@ -16,15 +16,15 @@ put_word-requires g c =
 pub returns-in_err-put_word-clause-part : goal.returns-in_err-put_word-clause-part
 returns-in_err-put_word-clause-part g c =
     let ws = c.args.words.now.items in
-    let numbers = c.args.numbers.now in
+    let numbers = c.args.machine.now.words in
     let i = c.loop-i.i in
     let within : i < length ws = omega (arith, c.loop-i-test.true, c.len-i-end.ensures) in
     let d = seen_word c.get.result.now in
     let next : i + 1 ≡ suc i = omega arith in
     let here = words_next numbers ws i
-    (i + 1) c.get.result.now c.word_at.result within c.get.ensures next c.word_at.ensures in
+    (i + 1) c.get.result.now c.word.result within c.get.ensures next c.word.ensures in
     at_refusal c.from_residual.result
-    (front_part (word_text d.name d.width c.word_at.result)
+    (front_part (word_text d.name d.width c.word.result)
     (words_from numbers (i + 1) (drop (i + 1) (map seen_word ws)))
     (subst (λ (rest : List ℕ). AddsFront (g.K.Sink.taken c.args.k.now) (g.K.Sink.taken c.loop-i.k) rest
     (words_from numbers 0 (map seen_word ws))) here c.loop-i.invariant.front)
@@ -33,15 +33,15 @@ returns-in_err-put_word-clause-part g c =
 pub loop-i-preserved : goal.loop-i-preserved
 loop-i-preserved g c =
     let ws = c.args.words.now.items in
-    let numbers = c.args.numbers.now in
+    let numbers = c.args.machine.now.words in
     let i = c.loop-i.i in
     let within : i < length ws = omega (arith, c.loop-i-test.true, c.len-i-end.ensures) in
     let d = seen_word c.get.result.now in
     let next : i + 1 ≡ suc i = omega arith in
     let here = words_next numbers ws i
-    (i + 1) c.get.result.now c.word_at.result within c.get.ensures next c.word_at.ensures in
+    (i + 1) c.get.result.now c.word.result within c.get.ensures next c.word.ensures in
     record {
-      front = front_next (word_text d.name d.width c.word_at.result)
+      front = front_next (word_text d.name d.width c.word.result)
           (words_from numbers (i + 1) (drop (i + 1) (map seen_word ws)))
           (subst (λ (rest : List ℕ). AddsFront (g.K.Sink.taken c.args.k.now) (g.K.Sink.taken c.loop-i.k) rest
           (words_from numbers 0 (map seen_word ws))) here c.loop-i.invariant.front)

@@ -4,7 +4,7 @@ use Rattle.ij_io.proofs.Adding.{adds_front, adds_then_part, at_refusal}
 use Rattle.instruments.specs.Seen.{seen_model}
 use Rattle.report.specs.Registers.{registers_text}
 use Rattle.report.specs.Totalled.{direct_text}
-use Rattle.bench_report.specs.Report.{instruments_text}
+use Rattle.report.specs.Instruments.{instruments_text}
 use Rattle.direct_report.specs.Tally.{Tally, Keeps}
 use Rattle.direct_report.specs.Report.{end_text}
 use Rattle.direct_report.proofs.Keeping.{end_same}
