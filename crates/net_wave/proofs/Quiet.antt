@@ -54,10 +54,13 @@ quiet b n Tap pin run shift = absurd (cc)
 quiet b n Instruction pin run shift = absurd (cc)
 quiet b n Scan pin run shift = absurd (cc)
 quiet b n Bit pin run shift = absurd (cc)
-quiet b n (Update r) pin run shift = or_left_false (changes_update_stages n.tap) (is_idle b.tap && is_idle n.tap) run
+quiet b n (Update r) pin run shift = or_left_false (changes_update_stages n.tap) (is_idle b.tap && is_idle
+    n.tap) run
 quiet b n (Shift r) pin run shift = shift refl
-quiet b n (OnPath r) pin run shift = or_left_false (changes_update_stages n.tap) (is_idle b.tap && is_idle n.tap) run
-quiet b n (Row m) pin run shift = or_left_false (changes_update_stages n.tap) (is_idle b.tap && is_idle n.tap) run
+quiet b n (OnPath r) pin run shift = or_left_false (changes_update_stages n.tap) (is_idle b.tap && is_idle
+    n.tap) run
+quiet b n (Row m) pin run shift = or_left_false (changes_update_stages n.tap) (is_idle b.tap && is_idle
+    n.tap) run
 quiet b n (Input i p) pin run shift = run
 quiet b n (Output i p) pin run shift = run
 quiet b n (Word i w) pin run shift = run

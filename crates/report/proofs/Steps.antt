@@ -101,7 +101,8 @@ instruments_next net models runners k s m r few also is_m is_r next =
     ap seen_model is_m ∙ sym (get_or-map seen_model models k m (seen_model m) few) in
     let runner : running_of r ≡ get_or xs k (running_of r) =
     ap running_of is_r ∙ sym (get_or-map running_of runners k r (running_of r) also) in
-    ap (λ (l : List SeenModel). instruments_from net k l (drop k xs)) (drop-cons ms k (seen_model m) in_models)
+    ap (λ (l : List SeenModel). instruments_from net k l (drop k xs)) (drop-cons ms k (seen_model m)
+    in_models)
     ∙ ap (instruments_from net k (get_or ms k (seen_model m) ∷ drop (suc k) ms))
     (drop-cons xs k (running_of r) in_runners)
     ∙ ap (λ (x : SeenModel). instrument_text net x k (get_or xs k (running_of r))

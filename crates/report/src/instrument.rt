@@ -42,8 +42,8 @@ fn put_numbers<K: Sink>(
 ) -> Result<(), StoreFault>
     requires few { length words.now.items ≤ 8 }
     requires words { All IsWord (map seen_word words.now.items) }
-    ensures whole { OnOk result
-        (Adds (K.taken k.old) (K.taken k.new) (words_from machine.now.words 0 (map seen_word words.now.items))) }
+    ensures whole { OnOk result (Adds (K.taken k.old) (K.taken k.new)
+        (words_from machine.now.words 0 (map seen_word words.now.items))) }
     ensures part { OnErr result (AddsPart (K.taken k.old) (K.taken k.new)
         (words_from machine.now.words 0 (map seen_word words.now.items))) }
     ensures cause { HasCause (K.faults k.old) (K.faults k.new) result StoreFault.Failed }
@@ -110,10 +110,10 @@ fn put_entry_if<K: Sink>(
 /// Writes the entries of a memory that aren't 0.
 fn put_entries<K: Sink>(memory: &MemDef, machine: &Machine, k: &mut K) -> Result<(), StoreFault>
     requires { IsMemory (seen_memory memory.now) }
-    ensures whole { OnOk result
-        (Adds (K.taken k.old) (K.taken k.new) (memory_text machine.now.memory (Some (seen_memory memory.now)))) }
-    ensures part { OnErr result
-        (AddsPart (K.taken k.old) (K.taken k.new) (memory_text machine.now.memory (Some (seen_memory memory.now)))) }
+    ensures whole { OnOk result (Adds (K.taken k.old) (K.taken k.new)
+        (memory_text machine.now.memory (Some (seen_memory memory.now)))) }
+    ensures part { OnErr result (AddsPart (K.taken k.old) (K.taken k.new)
+        (memory_text machine.now.memory (Some (seen_memory memory.now)))) }
     ensures cause { HasCause (K.faults k.old) (K.faults k.new) result StoreFault.Failed }
 {
     for i in 0..memory.depth {
@@ -129,8 +129,8 @@ fn put_memory<K: Sink>(
     k: &mut K,
 ) -> Result<(), StoreFault>
     requires { IfSome (option_map seen_memory memory.now) IsMemory }
-    ensures whole { OnOk result
-        (Adds (K.taken k.old) (K.taken k.new) (memory_text machine.now.memory (option_map seen_memory memory.now))) }
+    ensures whole { OnOk result (Adds (K.taken k.old) (K.taken k.new)
+        (memory_text machine.now.memory (option_map seen_memory memory.now))) }
     ensures part { OnErr result (AddsPart (K.taken k.old) (K.taken k.new)
         (memory_text machine.now.memory (option_map seen_memory memory.now))) }
     ensures cause { HasCause (K.faults k.old) (K.faults k.new) result StoreFault.Failed }

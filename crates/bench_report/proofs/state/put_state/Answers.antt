@@ -16,7 +16,8 @@ returns-clause-whole g c =
     whole_as c.put_state.result _ _
     (ap (λ (h : Holds). registers_text net h ++ instruments_text net ms (insts_of c.runners.result.now))
     c.holds.ensures.holds
-    ∙ ap (λ (x : List (Running Counts)). registers_text net c.args.bench.now.state.holds ++ instruments_text net ms x)
+    ∙ ap (λ (x : List (Running Counts)). registers_text net c.args.bench.now.state.holds ++ instruments_text
+    net ms x)
     c.runners.ensures.insts) c.put_state.ensures.whole
 
 pub returns-clause-part : goal.returns-clause-part
@@ -26,5 +27,6 @@ returns-clause-part g c =
     part_as c.put_state.result _ _
     (ap (λ (h : Holds). registers_text net h ++ instruments_text net ms (insts_of c.runners.result.now))
     c.holds.ensures.holds
-    ∙ ap (λ (x : List (Running Counts)). registers_text net c.args.bench.now.state.holds ++ instruments_text net ms x)
+    ∙ ap (λ (x : List (Running Counts)). registers_text net c.args.bench.now.state.holds ++ instruments_text
+    net ms x)
     c.runners.ensures.insts) c.put_state.ensures.part
