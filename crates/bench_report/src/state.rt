@@ -1,13 +1,11 @@
 // What a bench holds.
-ghost use Rattle.std.specs.Prelude.{◌≡◌, ◌<◌, ℕ, get_or, length, map, OnOk, OnErr};
+ghost use Rattle.std.specs.Prelude.{◌≡◌, map, OnOk, OnErr};
 ghost use Rattle.ij_io.specs.Bytes.{Adds, AddsPart};
 ghost use Rattle.ij_io.specs.Causes.{HasCause};
-ghost use Rattle.instruments.specs.Models.{IsModel};
-ghost use Rattle.instruments.specs.OnNetwork.{inner_at};
 ghost use Rattle.instruments.specs.Seen.{seen_model};
 ghost use Rattle.instruments.specs.Runners.{AreModels};
 ghost use Rattle.net_graph.specs.Nets.{IsNet};
-ghost use Rattle.bench_report.specs.Report.{inst_text, instruments_text, state_text};
+ghost use Rattle.bench_report.specs.Report.{state_text};
 
 use ij_bits::List;
 use ij_io::{Sink, StoreFault};

@@ -1,9 +1,7 @@
 // What the registers and the instruments hold.
-ghost use Rattle.std.specs.Prelude.{◌≡◌, ◌<◌, ◌++◌, ℕ, get_or, length, map, OnOk, OnErr};
+ghost use Rattle.std.specs.Prelude.{◌≡◌, ◌++◌, map, OnOk, OnErr};
 ghost use Rattle.ij_io.specs.Bytes.{Adds, AddsPart};
 ghost use Rattle.ij_io.specs.Causes.{HasCause};
-ghost use Rattle.instruments.specs.Models.{IsModel};
-ghost use Rattle.instruments.specs.OnNetwork.{inner_at};
 ghost use Rattle.instruments.specs.Seen.{seen_model};
 ghost use Rattle.net_graph.specs.Nets.{IsNet};
 ghost use Rattle.report.specs.Instruments.{instruments_text};

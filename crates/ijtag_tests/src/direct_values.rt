@@ -1,7 +1,7 @@
 // What a procedure means, done with all its reads kept, beside what `direct` prints of it.
 ghost use Rattle.std.specs.Prelude.{◌≡◌, length, true, All};
 ghost use Rattle.net_graph.specs.Steps.{IsStep};
-ghost use Rattle.ijtag_work.specs.Using.{AreShortTexts, IsUsable, seen_named, there};
+ghost use Rattle.ijtag_work.specs.Using.{IsUsable, there};
 
 use crate::commands::{DEVICE, DIRECT, MEMORY, MEMORY_TABLES, run};
 use crate::failing_makes::NONE;

@@ -1,12 +1,11 @@
 // The active path point by point, also where one mux always passes on the same row.
-ghost use Rattle.std.specs.Prelude.{◌≡◌, ◌≢◌, ◌↔◌, ◌+◌, ◌<◌, ◌≤◌, ◌++◌, IsTrue, IsFalse, Some, [], length};
+ghost use Rattle.std.specs.Prelude.{◌≡◌, ◌≢◌, ◌+◌, ◌<◌, ◌≤◌, ◌++◌, IsTrue, IsFalse, Some, [], length};
 ghost use Rattle.std.specs.Option.{ForSome};
 ghost use Rattle.net_graph.specs.Named.{IsPointOf};
 ghost use Rattle.net_graph.specs.Nets.{IsNet};
 ghost use Rattle.net_graph.specs.Path as paths;
 ghost use Rattle.net_graph.specs.Stuck as stuck;
 ghost use Rattle.net_graph.specs.Tracing.{registers_at};
-ghost use Rattle.net_graph.specs.declared.net.Point.TheVariants as point;
 ghost use Rattle.path_planner.specs.Planning.{IsBranchOf};
 ghost use Rattle.mux_test.specs.Steps as steps;
 ghost use Rattle.mux_test.specs.KnownRows.{AreKnown};

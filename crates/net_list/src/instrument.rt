@@ -1,5 +1,5 @@
 // The lines of instruments.
-ghost use Rattle.std.specs.Prelude.{◌≡◌, ◌<◌, ◌≤◌, ◌++◌, get_or, length, map, All, OnOk, OnErr};
+ghost use Rattle.std.specs.Prelude.{◌≡◌, ◌<◌, ◌++◌, length, All, OnOk, OnErr};
 ghost use Rattle.ij_io.specs.Bytes.{Adds, AddsPart};
 ghost use Rattle.ij_io.specs.Causes.{HasCause};
 ghost use Rattle.net_graph.specs.Named.{IsInputOf};

@@ -1,8 +1,7 @@
 // The line of totals.
-ghost use Rattle.std.specs.Prelude.{◌≡◌, ◌≤◌, length, IfOk, OnOk, OnErr};
+ghost use Rattle.std.specs.Prelude.{◌≡◌, IfOk, OnOk, OnErr};
 ghost use Rattle.ij_io.specs.Bytes.{Adds, AddsPart};
 ghost use Rattle.ij_io.specs.Causes.{HasCause};
-ghost use Rattle.net_graph.specs.Chain.{chain, IsRoute};
 ghost use Rattle.net_graph.specs.Nets.{IsNet};
 ghost use Rattle.net_list.specs.Listing as listing;
 

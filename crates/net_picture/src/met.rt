@@ -1,10 +1,9 @@
 // What is met on the active path.
-ghost use Rattle.std.specs.Prelude.{◌≡◌, ◌+◌, ◌<◌, ◌++◌, ℕ, suc, length, map, slice_index_or, IfOk, IfSome};
+ghost use Rattle.std.specs.Prelude.{◌≡◌, ◌+◌, ◌<◌, ◌++◌, ℕ, suc, length, IfOk, IfSome};
 ghost use Rattle.net_graph.specs.Held.{AreHolds};
 ghost use Rattle.net_graph.specs.Named.{IsPointOf};
 ghost use Rattle.net_graph.specs.Nets.{IsNet};
 ghost use Rattle.net_graph.specs.Path.{mux_source};
-ghost use Rattle.net_graph.specs.declared.net.Point.TheVariants as point;
 ghost use Rattle.net_picture.specs.Met as mets;
 ghost use Rattle.net_picture.specs.Plan.{has_path};
 

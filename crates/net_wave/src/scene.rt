@@ -3,7 +3,6 @@ ghost use Rattle.std.specs.Prelude.{◌≡◌, ◌<◌, ◌≤◌, ◌++◌, fal
 ghost use Rattle.bench_report.specs.Report.{chip_of};
 ghost use Rattle.instruments.specs.OnNetwork.{outputs};
 ghost use Rattle.instruments.specs.Seen.{seen_model};
-ghost use Rattle.net_graph.specs.Path as paths;
 ghost use Rattle.net_wave.specs.Changes.{is_shift, shown_at};
 ghost use Rattle.net_wave.specs.Left.{IsScene};
 ghost use Rattle.net_wave.specs.Values as values;

@@ -1,8 +1,7 @@
 // The direct meaning of bit steps, with all that they read.
-ghost use Rattle.std.specs.Prelude.{◌≡◌, ◌++◌, ◌+◌, ◌<◌, ◌≤◌, IfOk, OnOk, OnErr, IfSome, length, get_or, map};
+ghost use Rattle.std.specs.Prelude.{◌≡◌, ◌++◌, ◌+◌, ◌≤◌, IfOk, OnOk, OnErr, IfSome, length, map};
 ghost use Rattle.std.specs.Prelude.{All};
 ghost use Rattle.instruments.specs.Machine.{count_log};
-ghost use Rattle.instruments.specs.OnNetwork.{inner_at};
 ghost use Rattle.net_graph.specs.Named.{IsBitOf};
 ghost use Rattle.net_graph.specs.Nets.{IsNet};
 ghost use Rattle.net_graph.specs.SeenSteps.{seen_group, seen_step};

@@ -1,6 +1,6 @@
 // The register bits and the instruments of a network, as a procedure meets them.
-ghost use Rattle.std.specs.Prelude.{◌≡◌, ◌<◌, IfOk, length, get_or, map, All};
-ghost use Rattle.instruments.specs.OnNetwork.{inner_at, outputs, changes, all_have, fresh};
+ghost use Rattle.std.specs.Prelude.{◌≡◌, IfOk, length, All};
+ghost use Rattle.instruments.specs.OnNetwork.{outputs, changes, all_have, fresh};
 ghost use Rattle.instruments.specs.Machine.{count_log, Reset};
 ghost use Rattle.net_graph.specs.Held.{AreHolds};
 ghost use Rattle.net_graph.specs.Named.{IsBitOf};

@@ -1,5 +1,5 @@
 // The lines of instruments.
-ghost use Rattle.std.specs.Prelude.{◌≡◌, ◌<◌, ◌≤◌, get_or, map, length, option_map, Some, OnOk, OnErr, All};
+ghost use Rattle.std.specs.Prelude.{◌<◌, ◌≤◌, map, length, option_map, Some, OnOk, OnErr, All};
 ghost use Rattle.std.specs.Prelude.{IfSome};
 ghost use Rattle.ij_io.specs.Bytes.{Adds, AddsPart};
 ghost use Rattle.ij_io.specs.Causes.{HasCause};

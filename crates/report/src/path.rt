@@ -1,5 +1,5 @@
 // The paths of instruments.
-ghost use Rattle.std.specs.Prelude.{◌≡◌, ◌<◌, map, get_or, length, OnOk, OnErr};
+ghost use Rattle.std.specs.Prelude.{◌<◌, length, OnOk, OnErr};
 ghost use Rattle.ij_io.specs.Bytes.{Adds, AddsPart};
 ghost use Rattle.ij_io.specs.Causes.{HasCause};
 ghost use Rattle.net_graph.specs.Nets.{IsNet};

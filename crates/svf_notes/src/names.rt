@@ -1,5 +1,5 @@
 // The names of registers, of their bits and of what they capture.
-ghost use Rattle.std.specs.Prelude.{◌≡◌, ◌<◌, ◌++◌, [], Some, codes, cond, get_or, length, map, OnOk};
+ghost use Rattle.std.specs.Prelude.{◌≡◌, ◌<◌, Some, get_or, length, map, OnOk};
 ghost use Rattle.ij_io.specs.Bytes.{Adds};
 ghost use Rattle.net_graph.specs.Named as named;
 ghost use Rattle.net_graph.specs.Named.{IsSignalOf};

@@ -1,7 +1,6 @@
 // The note of one scan.
-ghost use Rattle.std.specs.Prelude.{◌≡◌, ◌==◌, ◌≤◌, ◌++◌, Some, codes, length, OnOk};
+ghost use Rattle.std.specs.Prelude.{◌≡◌, ◌==◌, ◌++◌, Some, codes, length, OnOk};
 ghost use Rattle.ij_io.specs.Bytes.{Adds};
-ghost use Rattle.net_graph.specs.Chain.{chain, IsRoute};
 ghost use Rattle.net_graph.specs.Nets.{IsNet};
 ghost use Rattle.svf_notes.specs.Notes as notes;
 ghost use Rattle.svf_notes.specs.Targets.{seen_target};
